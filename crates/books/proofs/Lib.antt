@@ -1,0 +1,4 @@
+pub mod Binary
+pub mod Ones
+pub mod Sets
+pub mod Words
