@@ -1,0 +1,4 @@
+pub mod Cuts
+pub mod Figures
+pub mod Spelling
+pub mod Whole

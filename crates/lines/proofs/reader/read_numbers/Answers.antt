@@ -1,0 +1,28 @@
+use Prim.Native.Nat.{_+_, _<_, _≤_}
+use mathlib.Core.Logic.{_≢_}
+use mathlib.Core.Path.{_≡_, sym, ap, _∙_, subst}
+use native.Mathlib.Omega.{arith}
+use borrow.Author.Count.{below-more}
+use lib.ListN.{length, getD, set}
+use Rattle.std.specs.Written.{decimal}
+use Rattle.std.proofs.shelf.Lists.{length-set, getD-set-same, getD-set-other}
+use Rattle.lines.specs.Numbers.{Numeral}
+use Rattle.lines.proofs.reader.read_numbers.Needs as need
+
+pub returns-in-Break-values : need.returns-in-Break-values
+returns-in-Break-values c =
+    rw (c .from-residual .ensures) (λ numbered. c .in-Break-values .ensures tt
+    (subst Numeral (sym (c .piece .ensures)) (numbered (c .loop-i .i) (omega arith))))
+
+pub loop-i-again : need.loop-i-again
+loop-i-again c =
+    let i = c .loop-i .i in
+    let ns = c .loop-i .values in
+    let n = c .in-Continue-values .field-0 in
+    let told = c .in-Continue-values .ensures tt in
+    let within : i < length ns = omega (arith, c .loop-i .inv .0) in (
+      length-set ns i n ∙ c .loop-i .inv .0,
+      below-more _ i
+          (λ k h. let ne : k ≢ i = omega arith in let e = getD-set-other ns i k n 0 ne in let was = c .loop-i .inv .1 k h in (omega (arith, e, was .0), was .1 ∙ ap decimal (sym e)))
+          (let e = getD-set-same ns i n 0 within in (omega (arith, e, told .0), sym (c .piece .ensures) ∙ told .1 ∙ ap decimal (sym e))),
+    )

@@ -1,0 +1,15 @@
+-- The numbers of a line.
+use mathlib.Core.Path.{_≡_}
+use mathlib.Core.List.{List}
+use Prim.Native.Nat.{ℕ, _≤_}
+use Rattle.std.specs.declared.option.Option.{Option}
+use Rattle.std.specs.Options.{Cases}
+use Rattle.std.specs.Written.{decimal}
+
+-- bs writes a number from 0 to 999 in decimal, without leading zeros
+abbrev pub Numeral : List ℕ → Type 0
+Numeral bs = (n : ℕ) × (n ≤ 999) × (bs ≡ decimal n)
+
+-- r is the number that bs writes, if it writes one
+abbrev pub ReadsNumber : List ℕ → Option ℕ → Type 0
+ReadsNumber bs r = Cases r (Numeral bs → ⊥) (λ n. (n ≤ 999) × (bs ≡ decimal n))

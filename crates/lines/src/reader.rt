@@ -1,0 +1,95 @@
+// Reading a line, by the letters that a reader knows.
+ghost use mathlib.Core.Path.{_≡_};
+ghost use mathlib.Core.Bool.{Bool, false};
+ghost use mathlib.Core.List.{List};
+ghost use Prim.Native.Nat.{ℕ, _≤_};
+ghost use lib.ListN.{length};
+ghost use Rattle.lines.specs.Lines.{numbers, Reads, ReadsBack, ReadsLetter, ReadsNumbers};
+use crate::fields::Fields;
+use crate::fields::LINE_ROOM;
+use crate::numbers::read_number;
+use crate::pieces::piece;
+use crate::pieces::separators;
+use refusals::Refusal;
+
+// The letters that a reader knows, each with how many numbers may follow it.
+pub trait Alphabet {
+    // Whether a byte is one of the letters.
+    ghost known: { ℕ → Bool };
+
+    // Whether so many numbers may follow the letter.
+    ghost counted: { ℕ → ℕ → Bool };
+
+    law comma: { known 44 ≡ false };
+
+    fn knows(letter: char) -> bool
+        ensures { λ r. ⌜ r ≡ known letter ⌝ };
+
+    fn counts(letter: char, numbers: usize) -> bool
+        ensures { λ r. ⌜ r ≡ counted letter numbers ⌝ };
+}
+
+impl Fields {
+    pub fn letter(&self) -> char
+        ensures { λ r. ⌜ r ≡ now (self .entry) .letter ⌝ }
+    {
+        self.letter
+    }
+
+    // The numbers, in the order of the line.
+    pub fn numbers(&self) -> &[u16]
+        ensures { λ r. ⌜ now r ≡ numbers (now (self .entry)) ⌝ }
+    {
+        &self.values[0..self.count]
+    }
+}
+
+// The letter of a line that has its length, a known letter and a right count of fields.
+fn read_letter<A: Alphabet>(line: &[u8]) -> Result<char, Refusal>
+    ensures { λ r. ⌜ ReadsLetter known counted (now (line .entry)) r ⌝ }
+{
+    if line.is_empty() || line.len() > LINE_ROOM {
+        return Err(Refusal::LineLength);
+    }
+    let first = piece(line, b',', 0);
+    if first.len() != 1 {
+        return Err(Refusal::UnknownLetter);
+    }
+    let letter = char::from(first[0]);
+    if !A::knows(letter) {
+        return Err(Refusal::UnknownLetter);
+    }
+    if !A::counts(letter, separators(line, b',')) {
+        return Err(Refusal::FieldCount);
+    }
+    Ok(letter)
+}
+
+// The numbers in the fields after the letter, unless one of these is no number.
+fn read_numbers(line: &[u8]) -> Option<[u16; LINE_ROOM]>
+    requires { ⌜ length (now line) ≤ 32 ⌝ }
+    ensures { λ r. ⌜ ReadsNumbers (now (line .entry)) r ⌝ }
+{
+    let mut values = [0; LINE_ROOM];
+    for i in 0..separators(line, b',') {
+        values[i] = read_number(piece(line, b',', i + 1))?;
+    }
+    Some(values)
+}
+
+// The letter and the numbers that a line spells.
+pub fn read_line<A: Alphabet>(line: &[u8]) -> Result<Fields, Refusal>
+    ensures reads { λ r. ⌜ Reads known counted (now (line .entry)) r ⌝ }
+    ensures back { λ r. ⌜ ReadsBack known counted (now (line .entry)) r ⌝ }
+{
+    let letter = read_letter::<A>(line)?;
+    let Some(values) = read_numbers(line) else {
+        return Err(Refusal::NotANumber);
+    };
+    let count = separators(line, b',');
+    Ok(Fields {
+        letter,
+        count,
+        values,
+    })
+}
