@@ -114,7 +114,7 @@ module _ (known : ℕ → Bool) (counted : ℕ → ℕ → Bool) (comma : known 
           ap (λ fs. getD fs (i + 1) []) told ∙ rw add-one (getD-map decimal ns i 0 [] within),
         )
 
-    not-refused : (e : Refusal) → First-refusal (line-checks known counted line) e → ⊥
+    pub not-refused : (e : Refusal) → First-refusal (line-checks known counted line) e → ⊥
     not-refused e = none-refuses (line-checks known counted line) e (
       λ h. h (omega (arith, ap length (s .spelled)), s .short),
       (

@@ -1,0 +1,4 @@
+pub mod Limits
+pub mod Page
+pub mod Rows
+pub mod Sheets
