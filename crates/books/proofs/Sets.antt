@@ -173,20 +173,21 @@ module _ (n : ℕ) (f : ℕ → (ℕ → Bool) → Bool) (grows : Grows f) where
     done = λ e q h. absurd (omega arith);
   }
 
-  pub passing-added : (R₀ R R′ : ℕ → Bool) (grew : Bool) (p : ℕ) → Passing n f R₀ R grew p → p < n → R p ≡ false → f p R ≡ true → Adds R p R′ → Passing n f R₀ R′ true (p + 1)
-  passing-added R₀ R R′ grew p k lt r h a =
-      let old = k .kept in let new = adds-more n R R′ p lt r a in
+  pub passing-added : (R₀ R R′ : ℕ → Bool) (grew : Bool) (p : ℕ) → Passing n f R₀ R grew p → p < n → (not (R p) && f p R) ≡ true → Adds R p R′ → Passing n f R₀ R′ true (p + 1)
+  passing-added R₀ R R′ grew p k lt next a =
+      let both = and-parts (not (R p)) (f p R) next in
+      let old = k .kept in let new = adds-more n R R′ p lt (not-true (R p) (both .0)) a in
       record {
-        reached = reached-more R R′ p (k .reached) lt h a;
+        reached = reached-more R R′ p (k .reached) lt (both .1) a;
         kept = omega arith;
         more = λ e. omega arith;
         done = λ e. absurd (both-ways true e refl);
       }
 
-  pub passing-kept : (R₀ R : ℕ → Bool) (grew : Bool) (p : ℕ) → Passing n f R₀ R grew p → (R p ≡ false → f p R ≡ false) → Passing n f R₀ R grew (p + 1)
+  pub passing-kept : (R₀ R : ℕ → Bool) (grew : Bool) (p : ℕ) → Passing n f R₀ R grew p → (not (R p) && f p R) ≡ false → Passing n f R₀ R grew (p + 1)
   passing-kept R₀ R grew p k here = record {
     reached = k .reached;
     kept = k .kept;
     more = k .more;
-    done = λ e. below-more (λ q. R q ≡ false → f q R ≡ false) p (k .done e) here;
+    done = λ e. below-more (λ q. R q ≡ false → f q R ≡ false) p (k .done e) (λ r. sym (ap (λ b. not b && f p R) r) ∙ here);
   }

@@ -1,6 +1,6 @@
 // A wait book under watch, and judging.
 ghost use mathlib.Core.Path.{_≡_};
-ghost use mathlib.Core.Bool.{Bool, true, false};
+ghost use mathlib.Core.Bool.{Bool, true, false, not, _&&_};
 ghost use Prim.Native.Nat.{ℕ, _+_, _<_, _≤_};
 ghost use Rattle.books.specs.Passes.{Reached, Settled};
 ghost use Rattle.books.specs.Points.{has};
@@ -15,7 +15,14 @@ pub struct Watch<B> {
     out: PointSet,
 }
 
-// Asks once about each point that is not yet reached, and adds those that follow. Answers whether it added one.
+// Whether `p` is not reached yet and follows from the points that are.
+fn is_next<B: WaitBook>(book: &B, p: usize, reached: &PointSet) -> bool
+    ensures { λ r. ⌜ r ≡ (not (has (now (reached .entry)) p) && meaning (now (book .entry)) p (has (now (reached .entry)))) ⌝ }
+{
+    !reached.contains(p) && book.follows(p, reached)
+}
+
+// Asks at most once about each point, and adds those that follow. Answers whether it added one.
 fn pass<B: WaitBook>(book: &B, reached: &mut PointSet) -> bool
     requires { ⌜ Reached points (meaning (now book)) (has (now reached)) ⌝ }
     ensures sound { λ _. ⌜ Reached points (meaning (now (book .entry))) (has (now (reached .exit))) ⌝ }
@@ -24,12 +31,26 @@ fn pass<B: WaitBook>(book: &B, reached: &mut PointSet) -> bool
 {
     let mut grew = false;
     for p in 0..B::count() {
-        if !reached.contains(p) && book.follows(p, reached) {
+        if is_next(book, p, reached) {
             reached.insert(p);
             grew = true;
         }
     }
     grew
+}
+
+// The largest shut set of the book, and how many passes over its points it took to find it.
+fn largest_shut<B: WaitBook>(book: &B) -> (PointSet, usize)
+    ensures judged { λ r. ⌜ LargestShut points (meaning (now (book .entry))) (has (r .0)) ⌝ }
+    ensures passes { λ r. ⌜ r .1 ≤ points + 1 ⌝ }
+{
+    let mut reached = PointSet::empty();
+    let mut passes = 1;
+    while pass(book, &mut reached) {
+        passes += 1;
+    }
+    let out = PointSet::below(B::count()).difference(&reached);
+    (out, passes)
 }
 
 impl<B: WaitBook> Watch<B> {
@@ -50,12 +71,8 @@ impl<B: WaitBook> Watch<B> {
         ensures judged { λ _. ⌜ LargestShut points (meaning (now (self .entry) .book)) (has (now (self .exit) .out)) ⌝ }
         ensures passes { λ r. ⌜ r ≤ points + 1 ⌝ }
     {
-        let mut reached = PointSet::empty();
-        let mut passes = 1;
-        while pass(&self.book, &mut reached) {
-            passes += 1;
-        }
-        self.out = PointSet::below(B::count()).difference(&reached);
+        let (out, passes) = largest_shut(&self.book);
+        self.out = out;
         passes
     }
 

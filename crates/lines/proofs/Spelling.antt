@@ -17,7 +17,6 @@ use Rattle.std.proofs.shelf.Lists.{length-map, getD-map, length-take, length-ta
 use Rattle.std.proofs.shelf.Elements.{all-getD, all-from-getD}
 use Rattle.std.proofs.shelf.Numerals.{not-in-digits}
 use Rattle.std.proofs.shelf.Decimals.{digits-decimal, same-from-decimal}
-use Rattle.std.proofs.shelf.Tests.{both-ways}
 use Rattle.refusals.specs.declared.Refusal.{Refusal}
 use Rattle.refusals.specs.Checks.{First-refusal}
 use Rattle.refusals.proofs.Checks.{none-refuses}
@@ -94,11 +93,11 @@ same-numbers (m ∷ ms) (n ∷ ns) (p, ps) (q, qs) e =
     let here : m ≡ n = same-from-decimal m n (omega arith) (omega arith) (ap (λ l. getD l 0 []) e) in
     let there : ms ≡ ns = same-numbers ms ns ps qs (ap (drop 1) e) in cc
 
-module _ (known : ℕ → Bool) (counted : ℕ → ℕ → Bool) (comma : known 44 ≡ false) where
+module _ (known : ℕ → Type 0) (counted : ℕ → ℕ → Type 0) (comma : known 44 → ⊥) where
   -- what is told of a line that spells l and ns
   module _ (line : List ℕ) (l : ℕ) (ns : List ℕ) (s : Spelled known counted line l ns) where
     told : fields line ≡ (l ∷ []) ∷ map decimal ns
-    told = ap fields (s .spelled) ∙ fields-spell l ns (λ e. both-ways (known 44) comma (subst (λ x. known x ≡ true) e (s .letter))) (s .small)
+    told = ap fields (s .spelled) ∙ fields-spell l ns (λ e. comma (subst known e (s .letter))) (s .small)
 
     told-count : length (fields line) ≡ length ns + 1
     told-count = ap length told ∙ omega (arith, length-map ns decimal)
@@ -126,7 +125,7 @@ module _ (known : ℕ → Bool) (counted : ℕ → ℕ → Bool) (comma : known 
       ),
     )
       where
-        same-count : (m n : ℕ) → m ≡ l → n ≡ length ns → counted m n ≡ true
+        same-count : (m n : ℕ) → m ≡ l → n ≡ length ns → counted m n
         same-count m n p q = rw (p, q) (s .count)
 
   -- one line spells one letter and one list of numbers

@@ -1,7 +1,6 @@
 -- Lines: how a letter and numbers are written, which lines are read as what, and how every other line is refused.
 -- A reader knows some letters, known l, and of each how many numbers may follow it, counted l n.
 use mathlib.Core.Path.{_≡_}
-use mathlib.Core.Bool.{Bool, true}
 use mathlib.Core.List.{List, [], _∷_}
 use Prim.Native.Nat.{ℕ, _+_, _<_, _≤_}
 use lib.ListN.{length, getD, take}
@@ -48,14 +47,14 @@ Numbered line = (i : ℕ) → i + 1 < length (fields line) → Numeral (field li
 abbrev pub numbers : Fields → List ℕ
 numbers f = take (f .count) (f .values)
 
-module _ (known : ℕ → Bool) (counted : ℕ → ℕ → Bool) where
+module _ (known : ℕ → Type 0) (counted : ℕ → ℕ → Type 0) where
   -- the first field is one letter that the reader knows
   abbrev pub Lettered : List ℕ → Type 0
-  Lettered line = (l : ℕ) × (field line 0 ≡ l ∷ []) × (known l ≡ true)
+  Lettered line = (l : ℕ) × (field line 0 ≡ l ∷ []) × known l
 
   -- as many numbers follow the letter as may
   abbrev pub Counted : List ℕ → Type 0
-  Counted line = (l n : ℕ) → field line 0 ≡ l ∷ [] → length (fields line) ≡ n + 1 → counted l n ≡ true
+  Counted line = (l n : ℕ) → field line 0 ≡ l ∷ [] → length (fields line) ≡ n + 1 → counted l n
 
   -- the checks of a line, in their order
   abbrev pub line-checks : List ℕ → Checks
@@ -69,8 +68,8 @@ module _ (known : ℕ → Bool) (counted : ℕ → ℕ → Bool) where
   pub record Spelled (line : List ℕ) (l : ℕ) (ns : List ℕ) : Type 0 where
     pub spelled : line ≡ spell l ns
     pub short : length line ≤ 32
-    pub letter : known l ≡ true
-    pub count : counted l (length ns) ≡ true
+    pub letter : known l
+    pub count : counted l (length ns)
     pub small : Small ns
 
   -- what the reader answers: what the line spells, or the first check that refuses it
@@ -83,7 +82,7 @@ module _ (known : ℕ → Bool) (counted : ℕ → ℕ → Bool) where
 
   -- the answer where only the letter is looked at, and how many fields there are
   abbrev pub ReadsLetter : List ℕ → Result ℕ Refusal → Type 0
-  ReadsLetter line r = results.Cases r (λ l. Sized line × (field line 0 ≡ l ∷ []) × (known l ≡ true) × Counted line) (First-refusal (line-checks line))
+  ReadsLetter line r = results.Cases r (λ l. Sized line × (field line 0 ≡ l ∷ []) × known l × Counted line) (First-refusal (line-checks line))
 
 -- the answer where only the numbers are looked at
 abbrev pub ReadsNumbers : List ℕ → Option (List ℕ) → Type 0

@@ -1,10 +1,10 @@
 // Reading a line, by the letters that a reader knows.
 ghost use mathlib.Core.Path.{_≡_};
-ghost use mathlib.Core.Bool.{Bool, false};
 ghost use mathlib.Core.List.{List};
 ghost use Prim.Native.Nat.{ℕ, _≤_};
 ghost use lib.ListN.{length};
-ghost use Rattle.lines.specs.Lines.{numbers, Reads, ReadsBack, ReadsLetter, ReadsNumbers};
+ghost use Rattle.std.specs.Orderings.{When};
+ghost use Rattle.lines.specs.Lines.{Sized, numbers, Reads, ReadsBack, ReadsLetter, ReadsNumbers};
 use crate::fields::Fields;
 use crate::fields::LINE_ROOM;
 use crate::numbers::read_number;
@@ -14,19 +14,19 @@ use refusals::Refusal;
 
 // The letters that a reader knows, each with how many numbers may follow it.
 pub trait Alphabet {
-    // Whether a byte is one of the letters.
-    ghost known: { ℕ → Bool };
+    // The letters, as bytes.
+    ghost known: { ℕ → Type 0 };
 
-    // Whether so many numbers may follow the letter.
-    ghost counted: { ℕ → ℕ → Bool };
+    // How many numbers may follow a letter.
+    ghost counted: { ℕ → ℕ → Type 0 };
 
-    law comma: { known 44 ≡ false };
+    law comma: { known 44 → ⊥ };
 
     fn knows(letter: char) -> bool
-        ensures { λ r. ⌜ r ≡ known letter ⌝ };
+        ensures { λ r. ⌜ When r (known letter) (known letter → ⊥) ⌝ };
 
     fn counts(letter: char, numbers: usize) -> bool
-        ensures { λ r. ⌜ r ≡ counted letter numbers ⌝ };
+        ensures { λ r. ⌜ When r (counted letter numbers) (counted letter numbers → ⊥) ⌝ };
 }
 
 impl Fields {
@@ -44,11 +44,18 @@ impl Fields {
     }
 }
 
+// Whether the line is neither empty nor too long.
+fn is_sized(line: &[u8]) -> bool
+    ensures { λ r. ⌜ When r (Sized (now (line .entry))) (Sized (now (line .entry)) → ⊥) ⌝ }
+{
+    !line.is_empty() && line.len() <= LINE_ROOM
+}
+
 // The letter of a line that has its length, a known letter and a right count of fields.
 fn read_letter<A: Alphabet>(line: &[u8]) -> Result<char, Refusal>
     ensures { λ r. ⌜ ReadsLetter known counted (now (line .entry)) r ⌝ }
 {
-    if line.is_empty() || line.len() > LINE_ROOM {
+    if !is_sized(line) {
         return Err(Refusal::LineLength);
     }
     let first = piece(line, b',', 0);

@@ -29,8 +29,8 @@ pub answered : {U : Type 0} (before after : WaitSheet) (line : List ℕ) (party 
 answered before after line party k ps (Ok u) s h = record { party = party; k = k; listed = ps; spells = s; passes = h .0; row = h .1 }
 answered before after line party k ps (Err e) s h = (unfit s (h .0), h .1)
 
-comma : known 44 ≡ false
-comma = refl
+comma : known 44 → ⊥
+comma e = omega (arith, e)
 
 -- a line that spells a row is read, and spells no other
 same-row : (line : List ℕ) (party k m j : ℕ) (ps qs : List ℕ) → Spells line party k ps → Spells line m j qs → party ∷ k ∷ ps ≡ m ∷ j ∷ qs

@@ -3,7 +3,6 @@ use mathlib.Core.Path.{_≡_}
 use mathlib.Core.Bool.{Bool}
 use mathlib.Core.List.{List, _∷_}
 use Prim.Native.Nat.{ℕ, _<_, _≤_}
-use lib.Dec.{leb, eqb}
 use lib.ListN.{length, getD}
 use Rattle.std.specs.Results.{Cases}
 use Rattle.std.specs.declared.result.Result.{Result}
@@ -16,12 +15,12 @@ use Rattle.sheets.specs.Limits.{parties, most-listed}
 use Rattle.sheets.specs.Sheets.{Meaning, follow, Replaces}
 
 -- the letter of a sheet's lines: W
-abbrev pub known : ℕ → Bool
-known l = eqb l 87
+abbrev pub known : ℕ → Type 0
+known l = l ≡ 87
 
 -- a party and how many it needs follow the letter, and then those listed
-abbrev pub counted : ℕ → ℕ → Bool
-counted l n = leb 2 n
+abbrev pub counted : ℕ → ℕ → Type 0
+counted l n = 2 ≤ n
 
 -- the line is W,party,k,p1,p2,..
 abbrev pub Spells : List ℕ → ℕ → ℕ → List ℕ → Type 0

@@ -3,6 +3,7 @@ mod page;
 mod rows;
 mod sheet;
 
+pub use page::INPUT_ROOM;
 pub use page::judged_page;
 pub use rows::SheetLetters;
 pub use rows::lines_are_told_apart;

@@ -22,7 +22,7 @@ use std::alloc::AllocError;
 use std::alloc::Global;
 
 // The most bytes that the lines of a sheet may have together.
-const INPUT_ROOM: usize = 65_536;
+pub const INPUT_ROOM: usize = 65_536;
 
 fn refusal_text(heap: Global, line: usize, number: u8) -> Result<String, AllocError>
     ensures { λ r. ⌜ made r (λ t. string-bytes t ≡ refusal-line line number) ⌝ }

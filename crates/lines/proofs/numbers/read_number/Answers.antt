@@ -10,6 +10,7 @@ use Rattle.std.proofs.shelf.Digits.{digits-more, value-more}
 use Rattle.std.proofs.shelf.Decimals.{decimal-value}
 use Rattle.std.proofs.shelf.Lists.{take-all}
 use Rattle.std.proofs.shelf.Numerals.{digit-from-value}
+use Rattle.std.proofs.shelf.Tests.{cases-lt}
 use Rattle.std.proofs.shelf.Text.{digitValue-digit}
 use Rattle.lines.proofs.Figures.{own, so-far-lt, numeral-some, numeral-short, numeral-first, numeral-digit}
 use Rattle.lines.proofs.numbers.read_number.Needs as need
@@ -20,8 +21,10 @@ returns-then-is-empty c num =
     let short = numeral-short (c .args .s .now) num in
     ⊎-elim (λ none. omega (arith, true-eqb (length (c .args .s .now)) 0 (sym none ∙ c .is-empty .ensures))) (λ far. omega arith) (c .then-is-empty .either)
 
-pub returns-then-s-gt1 : need.returns-then-s-gt1
-returns-then-s-gt1 c num = numeral-first (c .args .s .now) num (c .if-s-gt1 .taken) (c .if-s-eq48 .taken)
+pub returns-then-has-leading-zero : need.returns-then-has-leading-zero
+returns-then-has-leading-zero c num =
+    let leading = c .if-has-leading-zero .ensures tt in
+    numeral-first (c .args .s .now) num (leading .0) (leading .1)
 
 pub returns-then-not-is-ascii-digit : need.returns-then-not-is-ascii-digit
 returns-then-not-is-ascii-digit c num =
@@ -54,5 +57,5 @@ returns c =
     let lt = so-far-lt s (c .loop-b .b-index) 3 (c .loop-b .inv .0) (omega arith) (omega arith) in
     let small : c .loop-b .n ≤ 999 = omega (arith, c .loop-b .inv .1) in
     let some : 0 < length s = omega (arith, false-eqb (length s) 0 (c .if-is-empty .ensures tt)) in
-    let front : getD s 0 0 ≡ 48 → length s ≡ 1 = λ z. ⊎-elim (λ one. omega arith) (λ other. absurd (other z)) (c .else-s-eq48 .either) in
+    let front : getD s 0 0 ≡ 48 → length s ≡ 1 = λ z. ⊎-elim (λ (more : 1 < length s). absurd (c .if-has-leading-zero .ensures tt (more, z))) (λ (one : length s ≤ 1). omega arith) (cases-lt 1 (length s)) in
     (small, sym (decimal-value own s ds some front (omega (arith, val))) ∙ ap decimal (sym val))

@@ -1,5 +1,4 @@
 use mathlib.Core.Path.{_≡_, refl, sym, ap, subst, _∙_}
-use mathlib.Core.Bool.{true}
 use mathlib.Core.Logic.{inl, inr}
 use native.Mathlib.Omega.{arith}
 use Prim.Native.Nat.{ℕ, _+_, _≤_, _<_}
@@ -45,7 +44,7 @@ returns g c =
       spelled = line-from-fields line l (take n vs) whole;
       short = checked .0 .1;
       letter = checked .2;
-      count = subst (λ m. a .counted l m ≡ true) (sym size) (checked .3 l n (checked .1) (sym (counts .pieces)));
+      count = subst (a .counted l) (sym size) (checked .3 l n (checked .1) (sym (counts .pieces)));
       small = small-front n vs (λ i lt. told .1 i (omega (arith, counts .pieces)) .0);
     } in
     record { reads = h; back = λ m ns s. spelled-once (a .known) (a .counted) (g .A·Alphabet·met .comma) line l m (take n vs) ns h s }
