@@ -1,16 +1,17 @@
--- Where every check passes none refuses, and no two refuse first.
+-- Where every check passes none refuses, and no two are the first to refuse.
 use mathlib.Core.Path.{_≡_, sym, _∙_}
-use mathlib.Core.Logic.{⊎-elim}
+use mathlib.Core.Logic.{inl, inr}
 use Rattle.refusals.specs.declared.Refusal.{Refusal}
 use Rattle.refusals.specs.Checks.{Checks, done, check, First-refusal, All-pass}
 
 pub none-refuses : (cs : Checks) (r : Refusal) → All-pass cs → First-refusal cs r → ⊥
-none-refuses done r pass refusal = refusal
-none-refuses (check u F cs) r pass refusal = ⊎-elim (λ h. pass .0 (h .0)) (λ h. none-refuses cs r (pass .1) (h .1)) refusal
+none-refuses done r pass f = f
+none-refuses (check u F cs) r pass (inl f) = pass .0 (f .0)
+none-refuses (check u F cs) r pass (inr f) = none-refuses cs r (pass .1) (f .1)
 
 pub one-refuses : (cs : Checks) (r s : Refusal) → First-refusal cs r → First-refusal cs s → r ≡ s
-one-refuses done r s p q = absurd p
-one-refuses (check u F cs) r s p q = ⊎-elim
-    (λ a. ⊎-elim (λ b. a .1 ∙ sym (b .1)) (λ b. absurd (b .0 (a .0))) q)
-    (λ a. ⊎-elim (λ b. absurd (a .0 (b .0))) (λ b. one-refuses cs r s (a .1) (b .1)) q)
-    p
+one-refuses done r s f g = absurd f
+one-refuses (check u F cs) r s (inl f) (inl g) = f .1 ∙ sym (g .1)
+one-refuses (check u F cs) r s (inl f) (inr g) = absurd (g .0 (f .0))
+one-refuses (check u F cs) r s (inr f) (inl g) = absurd (f .0 (g .0))
+one-refuses (check u F cs) r s (inr f) (inr g) = one-refuses cs r s (f .1) (g .1)

@@ -1,0 +1,10 @@
+pub mod Limits
+pub mod Events
+pub mod Picture
+pub mod Changes
+pub mod Rules
+pub mod Refusals
+pub mod Book
+pub mod Dead
+pub mod Theorems
+pub mod Runs
