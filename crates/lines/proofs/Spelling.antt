@@ -3,7 +3,7 @@ use mathlib.Core.Path.{_≡_, refl, sym, ap, subst, _∙_}
 use mathlib.Core.Bool.{Bool, true, false, cond}
 use mathlib.Core.List.{List, [], _∷_, _++_, map}
 use native.Mathlib.Numerals.{add-one}
-use Prim.Native.Nat.{ℕ, zero, suc, _+_, _≤_, _<_}
+use Prim.Native.Nat.{ℕ, zero, suc, _+_, _-_, _≤_, _<_}
 use native.Mathlib.Omega.{arith}
 use lib.Dec.{eqb}
 use lib.ListN.{length, getD, take, drop}
@@ -23,7 +23,7 @@ use Rattle.refusals.proofs.Checks.{none-refuses}
 use Rattle.lines.specs.declared.fields.Fields.{Fields}
 use Rattle.lines.specs.Pieces.{onto, pieces, Lacks}
 use Rattle.lines.specs.Numbers.{Numeral}
-use Rattle.lines.specs.Lines.{spell, Small, fields, field, numbers, line-checks, Spelled, Reads, ReadsBack}
+use Rattle.lines.specs.Lines.{spell, Small, fields, field, Numbered, First-bad, numbers, line-checks, Spelled, Reads, ReadsBack}
 use Rattle.lines.proofs.Cuts.{pieces-front, pieces-single}
 use Rattle.lines.proofs.Figures.{own}
 
@@ -156,3 +156,9 @@ fields-from line l n vs first counted room each =
 pub small-front : (n : ℕ) (vs : List ℕ) → ((i : ℕ) → i < n → getD vs i 0 ≤ 999) → Small (take n vs)
 small-front n vs each =
     all-from-getD (λ m. m ≤ 999) (take n vs) 0 (λ i lt. let here : i < n = omega (arith, length-take n vs) in omega (arith, getD-take n vs i 0 here, each i here))
+
+-- where a field is bad, not all are numbers
+pub no-number : (line : List ℕ) {i : ℕ} → First-bad line i → Numbered line → ⊥
+no-number line {i} first all =
+    let back : i - 1 + 1 ≡ i = omega (arith, first .after-letter) in
+    first .bad (subst (λ j. Numeral (field line j)) back (all (i - 1) (omega (arith, first .after-letter, first .within))))

@@ -4,11 +4,9 @@ use mathlib.Core.Path.{_≡_}
 use mathlib.Core.List.{List, [], _∷_}
 use Prim.Native.Nat.{ℕ, _+_, _<_, _≤_}
 use lib.ListN.{length, getD, take}
-use Rattle.std.specs.declared.option.Option.{Option}
 use Rattle.std.specs.declared.result.Result.{Result}
 use Rattle.std.specs.declared.result.Result.the-variants.{Ok, Err}
 use Rattle.std.specs.Joined.{joined}
-use Rattle.std.specs.Options as options
 use Rattle.std.specs.Results as results
 use Rattle.std.specs.Written.{decimal}
 use Rattle.std.specs.shelf.Lists.{All}
@@ -84,7 +82,15 @@ module _ (known : ℕ → Type 0) (counted : ℕ → ℕ → Type 0) where
   abbrev pub ReadsLetter : List ℕ → Result ℕ Refusal → Type 0
   ReadsLetter line r = results.Cases r (λ l. Sized line × (field line 0 ≡ l ∷ []) × known l × Counted line) (First-refusal (line-checks line))
 
--- the answer where only the numbers are looked at
-abbrev pub ReadsNumbers : List ℕ → Option (List ℕ) → Type 0
-ReadsNumbers line r = options.Cases r (Numbered line → ⊥)
-    (λ ns. (length ns ≡ 32) × ((i : ℕ) → i + 1 < length (fields line) → (getD ns i 0 ≤ 999) × (field line (i + 1) ≡ decimal (getD ns i 0))))
+-- the field at place i is the first that is no number
+pub record First-bad (line : List ℕ) (i : ℕ) : Type 0 where
+  pub after-letter : 0 < i
+  pub within : i < length (fields line)
+  pub good : (j : ℕ) → j + 1 < i → Numeral (field line (j + 1))
+  pub bad : Numeral (field line i) → ⊥
+
+-- the answer where only the numbers are looked at: these, or the first bad field, counted with the letter as 1
+abbrev pub ReadsNumbers : List ℕ → Result (List ℕ) ℕ → Type 0
+ReadsNumbers line r =
+    results.Cases r (λ ns. (length ns ≡ 32) × ((i : ℕ) → i + 1 < length (fields line) → (getD ns i 0 ≤ 999) × (field line (i + 1) ≡ decimal (getD ns i 0))))
+    (λ place. (i : ℕ) × (place ≡ i + 1) × First-bad line i)

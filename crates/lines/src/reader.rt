@@ -72,16 +72,19 @@ fn read_letter<A: Alphabet>(line: &[u8]) -> Result<char, Refusal>
     Ok(letter)
 }
 
-// The numbers in the fields after the letter, unless one of these is no number.
-fn read_numbers(line: &[u8]) -> Option<[u16; LINE_ROOM]>
+// The numbers in the fields after the letter; or the first of these that is no number, counted with the letter as 1.
+fn read_numbers(line: &[u8]) -> Result<[u16; LINE_ROOM], usize>
     requires { ⌜ length (now line) ≤ 32 ⌝ }
     ensures { λ r. ⌜ ReadsNumbers (now (line .entry)) r ⌝ }
 {
     let mut values = [0; LINE_ROOM];
     for i in 0..separators(line, b',') {
-        values[i] = read_number(piece(line, b',', i + 1))?;
+        let Some(n) = read_number(piece(line, b',', i + 1)) else {
+            return Err(i + 2);
+        };
+        values[i] = n;
     }
-    Some(values)
+    Ok(values)
 }
 
 // The letter and the numbers that a line spells.
@@ -90,7 +93,7 @@ pub fn read_line<A: Alphabet>(line: &[u8]) -> Result<Fields, Refusal>
     ensures back { λ r. ⌜ ReadsBack known counted (now (line .entry)) r ⌝ }
 {
     let letter = read_letter::<A>(line)?;
-    let Some(values) = read_numbers(line) else {
+    let Ok(values) = read_numbers(line) else {
         return Err(Refusal::NotANumber);
     };
     let count = separators(line, b',');

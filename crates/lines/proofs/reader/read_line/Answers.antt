@@ -8,7 +8,7 @@ use Rattle.std.proofs.shelf.Lists.{length-take-le}
 use Rattle.std.proofs.shelf.Results.{err-from-errBy}
 use Rattle.refusals.specs.declared.Refusal.the-variants.{NotANumber}
 use Rattle.lines.specs.Lines.{Reads, Spelled, fields}
-use Rattle.lines.proofs.Spelling.{reads-back, spelled-once, fields-from, line-from-fields, small-front}
+use Rattle.lines.proofs.Spelling.{no-number, reads-back, spelled-once, fields-from, line-from-fields, small-front}
 use Rattle.lines.proofs.reader.read_line.Needs as need
 
 pub returns-in-Break-letter : need.returns-in-Break-letter
@@ -24,7 +24,7 @@ returns-in-rest g c =
     let line = c .args .line .now in
     let told = c .in-Continue-letter .ensures tt in
     let h : Reads (a .known) (a .counted) line (Err NotANumber) =
-    inr (λ no. no (told .0), inr (λ no. no (c .in-Continue-letter .letter, told .1, told .2), inr (λ no. no (told .3), inl (c .in-rest .ensures tt, refl)))) in
+    inr (λ no. no (told .0), inr (λ no. no (c .in-Continue-letter .letter, told .1, told .2), inr (λ no. no (told .3), inl (no-number line (c .in-rest .ensures tt .2), refl)))) in
     record { reads = h; back = reads-back (a .known) (a .counted) (g .A·Alphabet·met .comma) line (Err NotANumber) h }
 
 pub returns : need.returns
@@ -33,9 +33,9 @@ returns g c =
     let line = c .args .line .now in
     let l = c .in-Continue-letter .letter in
     let n = c .separators-count .result in
-    let vs = c .in-Some .values in
+    let vs = c .in-Ok .values in
     let checked = c .in-Continue-letter .ensures tt in
-    let told = c .in-Some .ensures tt in
+    let told = c .in-Ok .ensures tt in
     let counts = c .separators-count .ensures in
     let room : n ≤ length vs = omega (arith, told .0, counts .few, checked .0 .1) in
     let whole = fields-from line l n vs (checked .1) (counts .pieces) room (told .1) in

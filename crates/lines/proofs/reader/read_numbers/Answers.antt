@@ -9,17 +9,25 @@ use Rattle.std.proofs.shelf.Lists.{length-set, getD-set-same, getD-set-other}
 use Rattle.lines.specs.Numbers.{Numeral}
 use Rattle.lines.proofs.reader.read_numbers.Needs as need
 
-pub returns-in-Break-values : need.returns-in-Break-values
-returns-in-Break-values c =
-    rw (c .from-residual .ensures) (λ numbered. c .in-Break-values .ensures tt
-    (subst Numeral (sym (c .piece .ensures)) (numbered (c .loop-i .i) (omega arith))))
+pub returns-in-rest : need.returns-in-rest
+returns-in-rest c =
+    let i = c .loop-i .i in (
+      i + 1,
+      omega arith,
+      record {
+        after-letter = omega arith;
+        within = omega arith;
+        good = λ j lt. let was = c .loop-i .inv .1 j (omega arith) in (getD (c .loop-i .values) j 0, was .0, was .1);
+        bad = λ num. c .in-rest .ensures tt (subst Numeral (sym (c .piece .ensures)) num);
+      },
+    )
 
 pub loop-i-again : need.loop-i-again
 loop-i-again c =
     let i = c .loop-i .i in
     let ns = c .loop-i .values in
-    let n = c .in-Continue-values .field-0 in
-    let told = c .in-Continue-values .ensures tt in
+    let n = c .in-Some .n in
+    let told = c .in-Some .ensures tt in
     let within : i < length ns = omega (arith, c .loop-i .inv .0) in (
       length-set ns i n ∙ c .loop-i .inv .0,
       below-more _ i
