@@ -85,6 +85,19 @@ size-one-more (suc n) X Y p h e x = ⊎-elim
     omega arith)
     (cases-eq p n)
 
+-- a set of numbers below n has no more below a larger bound
+pub size-within : (n k : ℕ) (S : ℕ → Bool) → ((q : ℕ) → S q ≡ true → q < n) → size (k + n) S ≡ size n S
+unfolding size
+size-within n zero S h = ap (λ m. size m S) (omega arith)
+size-within n (suc k) S h =
+    let e : suc k + n ≡ suc (k + n) = omega arith in
+    let out : S (k + n) ≡ false = ⊎-elim
+    (λ (t : S (k + n) ≡ true). absurd (omega (arith, h (k + n) t)))
+    (λ (f : S (k + n) ≡ false). f)
+    (cases-bool (S (k + n))) in
+    let z : cond {A = ℕ} (S (k + n)) 1 0 ≡ 0 = ap (λ b. cond b 1 0) out in
+    ap (λ m. size m S) e ∙ omega (arith, z, size-within n k S h)
+
 -- the points of a book of at most 128 points are all below 128
 pub below-few : (n q : ℕ) → n ≤ 128 → (ltb q n && ltb q 128) ≡ ltb q n
 below-few n q few = grind (arith, tells)

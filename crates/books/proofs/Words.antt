@@ -1,19 +1,22 @@
 -- A set of points, from the two words that it is kept in.
 use mathlib.Core.Path.{_≡_, refl, sym, ap, _∙_}
 use mathlib.Core.Bool.{Bool, true, false, not, cond, _&&_, _||_}
-use mathlib.Core.Logic.{⊎-elim}
+use mathlib.Core.Logic.{_≢_, inl, inr, ⊎-elim}
 use Prim.Native.Nat.{ℕ, zero, suc, _+_, _-_, _*_, _/_, _%_, _^_, _≤_, _<_, min}
 use native.Mathlib.Numerals.{add-one}
 use native.Mathlib.Omega.{arith}
 use lib.Bits.{bitAnd, bitOr}
-use lib.Count.{ones}
+use lib.Count.{ones, trailingZeros}
 use lib.Dec.{eqb, ltb}
-use Rattle.std.proofs.shelf.Tests.{eq-eqb, ne-eqb, cases-eq}
+use Rattle.std.specs.Orderings.{Decides}
+use Rattle.std.proofs.shelf.Bits.{and-le-l}
+use Rattle.std.proofs.shelf.Tests.{and-from, and-parts, both-ways, cases-bool, cases-eq, cases-lt, eq-eqb, eqb-false, eqb-true, ne-eqb, not-from-false, not-true}
 use Rattle.std.proofs.shelf.Ways.{tells}
 use Rattle.books.specs.declared.points.PointSet.{PointSet}
 use Rattle.books.specs.Points.{bit, has}
 use Rattle.books.specs.Shut.{size}
 use Rattle.books.proofs.Binary.{or-bit, and-bit, and-not-bit, pow-bit, ones-bit, zero-bit, high-bit}
+use Rattle.books.proofs.Lowest.{trailing-lowest}
 use Rattle.books.proofs.Ones.{ones-size}
 use Rattle.books.proofs.Sets.{size-same}
 
@@ -116,3 +119,52 @@ size-words s a b =
     let e = size-same 64 (λ i. has s (i + i)) (bit (s .even)) (λ i _. has-even s (i + i) (omega arith) ∙ ap (bit (s .even)) (omega arith)) in
     let o = size-same 64 (λ i. has s (i + i + 1)) (bit (s .odd)) (λ i _. has-odd s (i + i + 1) (omega arith) ∙ ap (bit (s .odd)) (omega arith)) in
     omega (arith, ones-size 64 (s .even) (omega arith), ones-size 64 (s .odd) (omega arith))
+
+-- the words hold the even and the odd points
+even-point : (s : PointSet) (t : ℕ) → bit (s .even) t ≡ has s (2 * t)
+even-point s t = ap (bit (s .even)) (omega arith) ∙ sym (has-even s (2 * t) (omega arith))
+
+pub odd-point : (s : PointSet) (t : ℕ) → bit (s .odd) t ≡ has s (2 * t + 1)
+odd-point s t = ap (bit (s .odd)) (omega arith) ∙ sym (has-odd s (2 * t + 1) (omega arith))
+
+pub has-pair : (s : PointSet) (t : ℕ) → bit (bitAnd (s .even) (s .odd)) t ≡ (has s (2 * t) && has s (2 * t + 1))
+has-pair s t = and-bit (s .even) (s .odd) t ∙ (λ i. even-point s t i && odd-point s t i)
+
+-- a word without the digits of another is 0 exactly when each of its digits is one of the other's
+some-left : (a b : ℕ) → a ≤ top → b ≤ top → bitAnd a (top - b) ≢ 0 → (u : ℕ) × (u < 64) × (bit a u ≡ true) × (bit b u ≡ false)
+some-left a b ha hb ne =
+    let n = bitAnd a (top - b) in
+    let small : n ≤ top = omega (arith, and-le-l a (top - b)) in
+    let u = trailingZeros 64 n in
+    let one = trailing-lowest 64 n (omega arith) (omega arith) .one in
+    let parts = and-parts (bit a u) (not (bit b u)) (sym (and-not-bit 64 a b u (omega arith) (omega arith)) ∙ one) in
+    (u, below-64 a u ha (parts .0), parts .0, not-true (bit b u) (parts .1))
+  where
+    below-64 : (m v : ℕ) → m ≤ top → bit m v ≡ true → v < 64
+    below-64 m v h e = elim (cases-lt v 64) [ inl l ↦ l | inr l ↦ absurd (both-ways (bit m v) (high-bit 64 m v (omega arith) l) e) ]
+
+none-left : (a b : ℕ) → a ≤ top → b ≤ top → bitAnd a (top - b) ≡ 0 → (u : ℕ) → bit a u ≡ true → bit b u ≡ true
+none-left a b ha hb z u e = elim (cases-bool (bit b u)) [
+  | inl t ↦ t
+  | inr f ↦ absurd (both-ways (bit (bitAnd a (top - b)) u) (ap (λ n. bit n u) z ∙ zero-bit u)
+      (and-not-bit 64 a b u (omega arith) (omega arith) ∙ and-from (bit a u) (not (bit b u)) e (not-from-false (bit b u) f)))
+]
+
+pub left-decides : (a b : ℕ) → a ≤ top → b ≤ top → Decides (eqb (bitAnd a (top - b)) 0) ((u : ℕ) → bit a u ≡ true → bit b u ≡ true)
+left-decides a b ha hb = (
+  λ e. none-left a b ha hb (eqb-true _ _ e),
+  λ f. elim (cases-eq (bitAnd a (top - b)) 0) [
+    | inl z ↦ eq-eqb _ _ z
+    | inr ne ↦ absurd (let s = some-left a b ha hb ne in both-ways (bit b (s .0)) (s .3) (f (s .0) (s .2)))
+  ],
+)
+
+-- an even point besides 2t, own being the word with digit t alone
+pub besides-decides : (s : PointSet) (t own : ℕ) → s .even ≤ top → own ≤ top → ((u : ℕ) → u < 64 → bit own u ≡ eqb u t)
+    → Decides (not (eqb (bitAnd (s .even) (top - own)) 0)) ((u : ℕ) × (u < 64) × (u ≢ t) × (has s (2 * u) ≡ true))
+besides-decides s t own ha hb is = (
+  λ e. let k = some-left (s .even) own ha hb (eqb-false _ _ (not-true _ e)) in
+      (k .0, k .1, (λ q. both-ways (bit own (k .0)) (k .3) (is (k .0) (k .1) ∙ eq-eqb _ _ q)), sym (even-point s (k .0)) ∙ k .2),
+  λ (u, l, ne, h). not-from-false _ (ne-eqb _ _ (λ z. both-ways (bit own u) (is u l ∙ ne-eqb u t ne)
+      (none-left (s .even) own ha hb z u (even-point s u ∙ h)))),
+)

@@ -1,9 +1,11 @@
 // A set of points, which are numbered from 0 to 127.
 ghost use mathlib.Core.Path.{_≡_};
-ghost use mathlib.Core.Bool.{Bool, false, not, _&&_, _||_};
-ghost use Prim.Native.Nat.{ℕ, _-_, _^_, min};
+ghost use mathlib.Core.Bool.{Bool, true, false, not, _&&_, _||_};
+ghost use mathlib.Core.Logic.{_≢_};
+ghost use Prim.Native.Nat.{ℕ, _+_, _-_, _*_, _^_, _<_, min};
 ghost use lib.Dec.{eqb, ltb};
-ghost use Rattle.books.specs.Points.{has};
+ghost use Rattle.std.specs.Orderings.{Decides};
+ghost use Rattle.books.specs.Points.{bit, has};
 ghost use Rattle.books.specs.Shut.{size};
 
 // Even and odd points are kept apart, point 2t and point 2t + 1 each at bit t, so that a question about all even or all
@@ -94,5 +96,26 @@ impl PointSet {
         ensures { λ r. ⌜ r ≡ size 128 (has (now (self .entry))) ⌝ }
     {
         self.even.count_ones() as usize + self.odd.count_ones() as usize
+    }
+    // The pairs of points 2t and 2t + 1 that are both in the set, as a word: bit t is the pair of t.
+    pub fn pairs(&self) -> u64
+        ensures { λ r. ⌜ ((t : ℕ) → bit r t ≡ (has (now (self .entry)) (2 * t) && has (now (self .entry)) (2 * t + 1))) ⌝ }
+    {
+        self.even & self.odd
+    }
+
+    // Whether some even point other than 2t is in the set.
+    pub fn any_even_besides(&self, t: usize) -> bool
+        ensures { λ r. ⌜ Decides r ((u : ℕ) × (u < 64) × (u ≢ t) × (has (now (self .entry)) (2 * u) ≡ true)) ⌝ }
+    {
+        let own = if t < 64 { 1u64 << t } else { 0 };
+        self.even & !own != 0
+    }
+
+    // Whether point 2t + 1 is in the set for every bit t of `tasks`.
+    pub fn has_all_odd(&self, tasks: u64) -> bool
+        ensures { λ r. ⌜ Decides r ((t : ℕ) → bit tasks t ≡ true → has (now (self .entry)) (2 * t + 1) ≡ true) ⌝ }
+    {
+        tasks & !self.odd == 0
     }
 }

@@ -2,15 +2,11 @@
 use mathlib.Core.Path.{_≡_, refl, sym, ap, subst, _∙_}
 use mathlib.Core.Bool.{Bool, true, false, cond}
 use mathlib.Core.List.{List, [], _∷_, _++_, append-assoc}
-use mathlib.Core.Logic.{⊎-elim}
 use Prim.Native.Nat.{ℕ, zero, suc, _+_, _≤_, _<_}
 use native.Mathlib.Nat.{add-assoc}
 use native.Mathlib.Numerals.{add-one}
-use native.Mathlib.Omega.{arith}
 use Rattle.std.specs.Joined.{joined}
 use Rattle.std.proofs.shelf.Lists.{append-nil, joined-more}
-use Rattle.std.proofs.shelf.Tests.{both-ways, cases-bool, cases-lt}
-use Rattle.books.specs.Shut.{size}
 use Rattle.refusals.specs.declared.Refusal.{Refusal}
 use Rattle.refusals.specs.Table.{number-of}
 use Rattle.sheets.specs.Page.{Fed, takes, refuses, party-line, refusal-line, members}
@@ -37,16 +33,6 @@ module _ (n : ℕ) (S : ℕ → Bool) (start text : List ℕ) (so-far : text ≡
 
   pub party-out : S n ≡ false → text ≡ start ++ joined party-line (members (n + 1) S)
   party-out h = so-far ∙ ap (λ l. start ++ joined party-line l) (sym (members-out n S h))
-
--- a set of numbers below n has no more below a larger bound
-pub size-within : (n k : ℕ) (S : ℕ → Bool) → ((q : ℕ) → S q ≡ true → q < n) → size (k + n) S ≡ size n S
-unfolding size
-size-within n zero S h = ap (λ m. size m S) (omega arith)
-size-within n (suc k) S h =
-    let e : suc k + n ≡ suc (k + n) = omega arith in
-    let out : S (k + n) ≡ false = ⊎-elim (λ (t : S (k + n) ≡ true). absurd (omega (arith, h (k + n) t))) (λ (f : S (k + n) ≡ false). f) (cases-bool (S (k + n))) in
-    let z : cond {A = ℕ} (S (k + n)) 1 0 ≡ 0 = ap (λ b. cond b 1 0) out in
-    ap (λ m. size m S) e ∙ omega (arith, z, size-within n k S h)
 
 -- one line more that is taken or refused, before those that are left
 module _ (n t : ℕ) (f g h : Meaning) (all : List (List ℕ)) (start : Meaning) (taken : ℕ) (so-far line rest-text : List ℕ) (ls rest : List (List ℕ))

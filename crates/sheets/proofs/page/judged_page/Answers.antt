@@ -8,7 +8,7 @@ use Rattle.books.specs.Shut.{size, LargestShut}
 use Rattle.sheets.specs.Limits.{parties}
 use Rattle.sheets.specs.Page.{Page, judged, party-line, closing-line, members}
 use Rattle.sheets.specs.Sheets.{follow, NoRows}
-use Rattle.sheets.proofs.Pages.{size-within}
+use Rattle.books.proofs.Sets.{size-within}
 use Rattle.sheets.proofs.page.judged_page.Needs as need
 
 pub returns : need.returns
