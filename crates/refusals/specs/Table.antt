@@ -1,7 +1,7 @@
 -- The table of refusals: the number of each.
 use Prim.Native.Nat.{ℕ}
 use Rattle.refusals.specs.declared.Refusal.{Refusal}
-use Rattle.refusals.specs.declared.Refusal.the-variants.{LineLength, UnknownLetter, FieldCount, NotANumber, ActorNotBegun, ActorNotRunning, AllTasksBegun, ChildNotNext, TooManyEntries, NoRoomForBlock, NoBlockToLeave, ServerNotBegun, NoSuchEntry, BadOpenSet, NoRoomForRendezvous, NoRendezvousToEnd, FrameOpen, InputTooLong, UnknownParty, TooManyListed, NeedsTooMany, UnknownListed, ListedTwice}
+use Rattle.refusals.specs.declared.Refusal.the-variants.{LineLength, UnknownLetter, FieldCount, NotANumber, ActorNotBegun, ActorNotRunning, AllTasksBegun, ChildNotNext, TooManyEntries, NoRoomForBlock, NoBlockToLeave, ServerNotBegun, NoSuchEntry, BadOpenSet, NoRoomForRendezvous, NoRendezvousToEnd, FrameOpen, ReportTooLong, LineRefused, InputTooLong, UnknownParty, TooManyListed, NeedsTooMany, UnknownListed, ListedTwice}
 
 -- the number by which a refusal is reported
 abbrev pub number-of : Refusal → ℕ
@@ -22,6 +22,8 @@ number-of BadOpenSet = 14
 number-of NoRoomForRendezvous = 15
 number-of NoRendezvousToEnd = 16
 number-of FrameOpen = 17
+number-of ReportTooLong = 18
+number-of LineRefused = 19
 number-of InputTooLong = 20
 number-of UnknownParty = 21
 number-of TooManyListed = 22
