@@ -15,17 +15,17 @@ pub struct Watch<B> {
 
 // The points of the book that are not reached yet.
 fn unreached<B: WaitBook>(reached: &PointSet) -> PointSet
-    ensures { (q : ℕ) → has result q ≡ outside points (has reached.now) q }
+    ensures { (q : ℕ) → has result q ≡ outside B.points (has reached.now) q }
 {
     PointSet::below(B::count()).difference(reached)
 }
 
 // Asks once about each point that is not reached yet, and adds those that follow. Answers whether it added one.
 fn pass<B: WaitBook>(book: &B, reached: &mut PointSet) -> bool
-    requires { Reached points (meaning book.now) (has reached.old) }
-    ensures sound { Reached points (meaning book.now) (has reached.new) }
-    ensures more { result ≡ true → size points (has reached.old) < size points (has reached.new) }
-    ensures done { result ≡ false → Settled points (meaning book.now) (has reached.new) }
+    requires { Reached B.points (B.meaning book.now) (has reached.old) }
+    ensures sound { Reached B.points (B.meaning book.now) (has reached.new) }
+    ensures more { result ≡ true → size B.points (has reached.old) < size B.points (has reached.new) }
+    ensures done { result ≡ false → Settled B.points (B.meaning book.now) (has reached.new) }
 {
     let mut grew = false;
     let mut rest = unreached::<B>(reached);
@@ -40,8 +40,8 @@ fn pass<B: WaitBook>(book: &B, reached: &mut PointSet) -> bool
 
 // The largest shut set of the book, and how many passes over its points it took to find it.
 fn largest_shut<B: WaitBook>(book: &B) -> (PointSet, usize)
-    ensures judged { LargestShut points (meaning book.now) (has result.0) }
-    ensures passes { result.1 ≤ points + 1 }
+    ensures judged { LargestShut B.points (B.meaning book.now) (has result.0) }
+    ensures passes { result.1 ≤ B.points + 1 }
 {
     let mut reached = PointSet::empty();
     let mut passes = 1;
@@ -66,8 +66,8 @@ impl<B: WaitBook> Watch<B> {
     // points that took, each of which asks the book at most once about each point.
     pub fn judge(&mut self) -> usize
         ensures same { self.new.book ≡ self.old.book }
-        ensures judged { LargestShut points (meaning self.old.book) (has self.new.out) }
-        ensures passes { result ≤ points + 1 }
+        ensures judged { LargestShut B.points (B.meaning self.old.book) (has self.new.out) }
+        ensures passes { result ≤ B.points + 1 }
     {
         let (out, passes) = largest_shut(&self.book);
         self.out = out;

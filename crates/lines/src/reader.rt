@@ -48,7 +48,7 @@ fn is_sized(line: &[u8]) -> bool
 
 // The letter of a line that has its length, a known letter and a right count of fields.
 fn read_letter<A: Alphabet>(line: &[u8]) -> Result<char, Refusal>
-    ensures { ReadsLetter known counted line.now result }
+    ensures { ReadsLetter A.known A.counted line.now result }
 {
     if !is_sized(line) {
         return Err(Refusal::LineLength);
@@ -84,8 +84,8 @@ fn read_numbers(line: &[u8]) -> Result<[u16; LINE_ROOM], usize>
 
 // The letter and the numbers that a line spells.
 pub fn read_line<A: Alphabet>(line: &[u8]) -> Result<Fields, Refusal>
-    ensures reads { Reads known counted line.now result }
-    ensures back { ReadsBack known counted line.now result }
+    ensures reads { Reads A.known A.counted line.now result }
+    ensures back { ReadsBack A.known A.counted line.now result }
 {
     let letter = read_letter::<A>(line)?;
     let Ok(values) = read_numbers(line) else {

@@ -86,7 +86,7 @@ pub trait Roster {
 }
 
 fn put_report<R: Roster>(buf: &mut [u8], roster: &R, told: u64, stopped: bool) -> usize
-    ensures { Puts buf.old 0 (report_text (rows_below (rows roster.now) 64) told stopped) buf.new result }
+    ensures { Puts buf.old 0 (report_text (rows_below (R.rows roster.now) 64) told stopped) buf.new result }
 {
     let mut at = 0;
     let mut names = 0;
@@ -106,7 +106,7 @@ pub fn write_report<R: Roster>(
     told: u64,
     stopped: bool,
 ) -> Result<usize, Refusal>
-    ensures { Written (report_text (rows_below (rows roster.now) 64) told stopped) buf.old result buf.new }
+    ensures { Written (report_text (rows_below (R.rows roster.now) 64) told stopped) buf.old result buf.new }
 {
     let mut none = [0; 0];
     if put_report(&mut none, roster, told, stopped) > buf.len() {

@@ -3,7 +3,7 @@ ghost use Rattle.std.specs.Prelude.{◌≡◌, ℕ, Bool, true, false, ◌&&◌,
 ghost use Rattle.books.specs.Points.{has};
 ghost use Rattle.books.specs.Shut.{size};
 ghost use Rattle.sheets.specs.Rows.{known, counted, AllParties, SomeOther, Once, Again, RowAnswer, LineAnswer, ToldApart};
-ghost use borrow.Author.Rules;
+ghost use Rattle.std.proofs.Common.{rules};
 
 use crate::sheet::{PARTIES, Row, WaitSheet};
 use books::PointSet;
@@ -21,7 +21,7 @@ impl Alphabet for SheetLetters {
 
     ghost counted = { counted };
 
-    ghost comma = { Prim.search Needs.needs };
+    ghost comma = { Prim.search rules };
 
     fn knows(letter: char) -> bool {
         match letter {

@@ -3,7 +3,7 @@ ghost use Rattle.std.specs.Prelude.{◌≡◌, ℕ, Bool};
 ghost use Rattle.sheets.specs.Sheets.{follow, NoRows};
 ghost use Rattle.sheets.specs.Limits.{parties};
 ghost use Rattle.sheets.specs.Meaning.{follow_grows, follow_beyond};
-ghost use borrow.Author.Rules;
+ghost use Rattle.std.proofs.Common.{rules};
 
 use books::{PointSet, WaitBook};
 
@@ -30,7 +30,7 @@ impl WaitBook for WaitSheet {
 
     ghost meaning = { follow };
 
-    ghost few = { Prim.search Needs.needs };
+    ghost few = { Prim.search rules };
 
     ghost grows = { follow_grows };
 

@@ -40,7 +40,7 @@ impl PlayRefusal {
 
 // Tells the lines of a tape in order, up to the first that is refused, and answers how many it told.
 pub fn play<T: Teller>(teller: &mut T, tape: &[u8]) -> Result<usize, PlayRefusal>
-    ensures { Played steps teller.old tape.now result teller.new }
+    ensures { Played T.steps teller.old tape.now result teller.new }
 {
     if tape.len() > TAPE_ROOM {
         return Err(PlayRefusal::TapeTooLong);

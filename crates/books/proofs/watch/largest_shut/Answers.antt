@@ -14,8 +14,8 @@ loop-passes-init g c =
     let b = c.args.book.now in
     (reached_none m.points (m.meaning b) (g.met.B.WaitBook.grows b) (has c.empty-reached.result) c.empty-reached.ensures, omega arith)
 
-pub overflow-add-passes : goal.overflow-add-passes
-overflow-add-passes g c =
+pub overflow_add-passes : goal.overflow_add-passes
+overflow_add-passes g c =
     let m = g.B.WaitBook in
     omega (arith, size_le m.points (has c.loop-passes.reached), c.loop-passes.invariant.1, g.met.B.WaitBook.few)
 

@@ -4,16 +4,16 @@ use Rattle.lines.specs.Pieces.{pieces}
 use Rattle.lines.proofs.Cuts.{pieces_front, pieces_single, piece_here, piece_next, piece_past, pieces_first}
 use Rattle.lines.proofs.pieces.piece.Goals as goal
 
-pub returns-in-default-None : goal.returns-in-default-None
-returns-in-default-None c =
+pub returns-in_default-None : goal.returns-in_default-None
+returns-in_default-None c =
     let told = c.cut.ensures in
-    let whole = MatchOption-at_none _ _ c.in-default-None.is-1 told.1 in
+    let whole = MatchOption-at_none _ _ c.in_default-None.is-1 told.1 in
     piece_past _ _ _ _ (sym (ap (pieces c.args.sep) whole ∙ pieces_single _ _ told.0) ∙ c.loop-i.invariant) c.loop-i-test.true
 
 pub loop-i-preserved : goal.loop-i-preserved
 loop-i-preserved c =
     let told = c.cut.ensures in
-    let parts = MatchOption-at_some _ _ _ c.in-default-Some.is-1 told.1 in
+    let parts = MatchOption-at_some _ _ _ c.in_default-Some.is-1 told.1 in
     piece_next (pieces c.args.sep c.args.s.now) _ _ c.loop-i.i (sym (ap (pieces c.args.sep) parts ∙ pieces_front _ _ _ told.0) ∙ c.loop-i.invariant)
 
 pub returns : goal.returns

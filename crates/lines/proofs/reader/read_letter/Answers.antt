@@ -9,14 +9,14 @@ returns-then-not-counts g c =
     let l = c.from-letter.result in
     let n = c.separators.result in
     let first : field line 0 ≡ l ∷ [] = one_letter line _ l c.piece-first.ensures c.if-first-ne1.false c.from-letter.ensures in
-    inr (λ h. h c.if-not-is-sized.ensures, inr (λ h. h (l, first, c.if-not-knows.ensures), inl (λ counted. c.if-not-counts.ensures (counted l n first (sym c.separators.ensures.pieces)), refl)))
+    inr (λ h. h c.if-not-is_sized.ensures, inr (λ h. h (l, first, c.if-not-knows.ensures), inl (λ counted. c.if-not-counts.ensures (counted l n first (sym c.separators.ensures.pieces)), refl)))
 
 pub returns : goal.returns
 returns g c =
     let line = c.args.line.now in
     let l = c.from-letter.result in
     let first : field line 0 ≡ l ∷ [] = one_letter line _ l c.piece-first.ensures c.if-first-ne1.false c.from-letter.ensures in (
-      c.if-not-is-sized.ensures,
+      c.if-not-is_sized.ensures,
       first,
       c.if-not-knows.ensures,
       λ m n is count.

@@ -3,8 +3,8 @@ use Rattle.std.proofs.lemmas.List.{length-set, get_or-set_same, get_or-set_other
 use Rattle.lines.specs.Numbers.{Numeral}
 use Rattle.lines.proofs.reader.read_numbers.Goals as goal
 
-pub returns-in-default : goal.returns-in-default
-returns-in-default c =
+pub returns-in_default : goal.returns-in_default
+returns-in_default c =
     let i = c.loop-i.i in (
       i + 1,
       omega arith,
@@ -12,7 +12,7 @@ returns-in-default c =
         after_letter = omega arith;
         within = omega arith;
         good = λ j lt. let was = c.loop-i.invariant.1 j (omega arith) in (get_or c.loop-i.values j 0, was.0, was.1);
-        bad = λ num. c.in-default.ensures (subst Numeral (sym c.piece.ensures) num);
+        bad = λ num. c.in_default.ensures (subst Numeral (sym c.piece.ensures) num);
       },
     )
 

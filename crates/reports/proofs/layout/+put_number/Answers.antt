@@ -16,5 +16,5 @@ returns t c =
     let fits : n < 2 ^ 64 = omega arith in
     let h : Puts c.args.buf.now c.args.at (decimal n) c.put-2.new.buf c.put-2.result =
     subst (λ l. Puts c.args.buf.now c.args.at l c.put-2.new.buf c.put-2.result) (sym (decimal_step n c.if-n-lt10.false fits))
-    (then c.put-number-at.ensures.puts c.put-2.ensures) in
+    (then c.put_number-at.ensures.puts c.put-2.ensures) in
     record { puts = h; short = omega (arith, h.place, length-decimal-le 20 n (omega arith) (omega arith) fits) }

@@ -5,7 +5,7 @@ use Rattle.books.specs.Points.{has}
 use Rattle.sheets.specs.Page.{party_line, members}
 use Rattle.sheets.proofs.Pages.{members_none, party_in, party_out}
 use Rattle.sheets.proofs.page.put_parties.Goals as goal
-use Rattle.sheets.proofs.page.put_parties.Goals.{then-contains+in-ok-left-out+in-ok-push-str, else-contains}
+use Rattle.sheets.proofs.page.put_parties.Goals.{then-contains+in_ok-left_out+in_ok-push_str, else-contains}
 
 pub loop-party-init : goal.loop-party-init
 loop-party-init c =
@@ -19,9 +19,9 @@ loop-party-preserved c =
     let start = string_bytes c.args.text.now in
     let text = string_bytes c.loop-party.text in
     elim c.if-contains.branch [
-      | then-contains+in-ok-left-out+in-ok-push-str w ↦
-          ap string_bytes w.text-is ∙ w.in-ok-push-str.ensures.bytes
-          ∙ ap (λ l. text ++ l) (w.as-str.ensures.value ∙ w.in-ok-left-out.ensures)
+      | then-contains+in_ok-left_out+in_ok-push_str w ↦
+          ap string_bytes w.text-is ∙ w.in_ok-push_str.ensures.bytes
+          ∙ ap (λ l. text ++ l) (w.as_str.ensures.value ∙ w.in_ok-left_out.ensures)
           ∙ party_in n out start text c.loop-party.invariant (sym c.contains.ensures ∙ w.if-contains.true)
       | else-contains w ↦ ap string_bytes w.text-is ∙ party_out n out start text c.loop-party.invariant (sym c.contains.ensures ∙ w.if-contains.false)
     ]

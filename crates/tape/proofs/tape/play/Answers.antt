@@ -13,11 +13,11 @@ returns-in-Err g c =
     let steps = g.T.Teller.steps in
     let told = c.in-Err.ensures in
     record {
-      short = c.if-tape-gt-TAPE-ROOM.false;
+      short = c.if-tape-gt-TAPE_ROOM.false;
       within = within all n _ _ next;
       accepted = subst (Accepts steps c.args.teller.now (take n all)) (sym told.1) c.loop-line.invariant.0;
       cause = c.in-Err.field-0;
-      refused = subst (λ l. steps c.tell-line.new.self l (Err c.in-Err.field-0)) (sym (here all n _ _ next []))
+      refused = subst (λ l. steps c.tell_line.new.self l (Err c.in-Err.field-0)) (sym (here all n _ _ next []))
           (subst (λ t. steps t c.in-Some.line.now (Err c.in-Err.field-0)) (sym told.1) told.0);
     }
 
@@ -28,8 +28,8 @@ loop-line-preserved g c =
     let said = c.in-Some.ensures in
     let next = c.loop-line.invariant.1 ∙ said.0 in
     let steps = g.T.Teller.steps in (
-      subst (λ ls. Accepts steps c.args.teller.now ls c.tell-line.new.self) (sym (one_more all n _ _ next))
-          (accepts_more steps c.args.teller.now (take n all) c.loop-line.teller _ _ c.loop-line.invariant.0 c.in-default-tell-line.ensures),
+      subst (λ ls. Accepts steps c.args.teller.now ls c.tell_line.new.self) (sym (one_more all n _ _ next))
+          (accepts_more steps c.args.teller.now (take n all) c.loop-line.teller _ _ c.loop-line.invariant.0 c.in_default-tell_line.ensures),
       left all n _ _ next,
       omega (arith, within all n _ _ next),
       omega (arith, c.loop-line.invariant.3, said.1),
@@ -39,9 +39,9 @@ pub returns : goal.returns
 returns g c =
     let all = lines_of c.args.tape.now in
     let n = c.loop-line.told in
-    let none : drop n all ≡ [] = c.loop-line.invariant.1 ∙ ap lines_of c.in-default.ensures in
+    let none : drop n all ≡ [] = c.loop-line.invariant.1 ∙ ap lines_of c.in_default.ensures in
     let past : length all ≤ n = omega (arith, ap length none, length-drop n all) in (
-      c.if-tape-gt-TAPE-ROOM.false,
+      c.if-tape-gt-TAPE_ROOM.false,
       omega (arith, c.loop-line.invariant.2),
       subst (λ ls. Accepts g.T.Teller.steps c.args.teller.now ls c.loop-line.teller) (take_all n all past) c.loop-line.invariant.0,
     )

@@ -6,9 +6,9 @@ use Rattle.task_book.specs.Names.{HoldsDead}
 use Rattle.monitor.proofs.Exactly.{none_dead}
 use Rattle.monitor.proofs.monitor.Monitor.of_new_program.Goals as goal
 
-pub invariant-of-result : goal.invariant-of-result
-invariant-of-result c =
-    (∣ subst (λ (x : CodePicture). HoldsDead 0 (view x.tables)) (sym c.new-2.ensures) (subst (HoldsDead 0) (sym c.new.ensures) none_dead) ∣₁, tt)
+pub invariant_of-result : goal.invariant_of-result
+invariant_of-result c =
+    record { exact = ∣ subst (λ (x : CodePicture). HoldsDead 0 (view x.tables)) (sym c.new-2.ensures) (subst (HoldsDead 0) (sym c.new.ensures) none_dead) ∣₁ }
 
 pub returns : goal.returns
 returns c = record { picture = ap (λ (x : CodePicture). view x.tables) c.new-2.ensures ∙ c.new.ensures; named = zero_bit }

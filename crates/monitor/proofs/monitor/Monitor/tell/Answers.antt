@@ -6,8 +6,8 @@ use Rattle.monitor.specs.State.{Accepts}
 use Rattle.monitor.proofs.Children.{child_begins}
 use Rattle.monitor.proofs.monitor.Monitor.tell.Goals as goal
 
-pub overflow-cast-child : goal.overflow-cast-child
-overflow-cast-child c = omega (arith, (child_begins c.in-Ok.ensures.step c.in-Begin.child c.in-Begin.entries c.in-Begin.is).small)
+pub overflow_cast-child : goal.overflow_cast-child
+overflow_cast-child c = omega (arith, (child_begins c.in-Ok.ensures.step c.in-Begin.child c.in-Begin.entries c.in-Begin.is).small)
 
 pub returns-in-Begin : goal.returns-in-Begin
 returns-in-Begin c =

@@ -10,36 +10,35 @@ use Rattle.monitor.proofs.Exactly.{exactly, newly_dead, none_newly_dead, old_and
 use Rattle.monitor.proofs.Same.{same_monitor}
 use Rattle.monitor.proofs.monitor.Monitor.tell_event.Goals as goal
 
-pub invariant-of-self : goal.invariant-of-self
-invariant-of-self c =
+pub invariant_of-self : goal.invariant_of-self
+invariant_of-self c =
     let m = c.args.self.now in
-    (subst (λ (x : Picture). ∥ (HoldsDead m.names.0 (view x.tables)) ∥₁) (sym c.in-err-outcome.ensures.1) m.exact, tt)
+    record { exact = subst (λ (x : Picture). ∥ (HoldsDead m.names.0 (view x.tables)) ∥₁) (sym c.in_err-outcome.ensures.1) m.exact }
 
-pub returns-in-err-outcome : goal.returns-in-err-outcome
-returns-in-err-outcome c =
-    let p = err_from_is_err_and c.from-residual.result c.from-residual.ensures.1 in
-    let told = c.in-err-outcome.ensures in
+pub returns-in_err-outcome : goal.returns-in_err-outcome
+returns-in_err-outcome c =
+    let p = err_from_is_err_and c.from_residual.result c.from_residual.ensures.1 in
+    let told = c.in_err-outcome.ensures in
     rw (p.1, p.2) (told.0, same_monitor c.args.self.now c.tell.new.self _ told.1)
 
-pub invariant-of-self-then-not-may-make-dead : goal.invariant-of-self-then-not-may-make-dead
-invariant-of-self-then-not-may-make-dead c =
+pub invariant_of-self-then-not-may_make_dead : goal.invariant_of-self-then-not-may_make_dead
+invariant_of-self-then-not-may_make_dead c =
     let m = c.args.self.now in
-    let p = picture_of m.tasks.watch.book in (
-      ∣ still_exact p (view c.tell.new.self.tables) c.args.event c.in-ok-outcome.outcome m.tasks.watch.book.picture.reached
-          c.in-ok-outcome.ensures (c.may-make-dead.ensures c.if-not-may-make-dead.true) m.names.0 (exactly m.names.0 p m.exact) ∣₁,
-      tt,
-    )
+    let p = picture_of m.tasks.watch.book in record {
+      exact = ∣ still_exact p (view c.tell.new.self.tables) c.args.event c.in_ok-outcome.outcome m.tasks.watch.book.picture.reached
+          c.in_ok-outcome.ensures (c.may_make_dead.ensures c.if-not-may_make_dead.true) m.names.0 (exactly m.names.0 p m.exact) ∣₁;
+    }
 
-pub returns-then-not-may-make-dead : goal.returns-then-not-may-make-dead
-returns-then-not-may-make-dead c =
+pub returns-then-not-may_make_dead : goal.returns-then-not-may_make_dead
+returns-then-not-may_make_dead c =
     let m = c.args.self.now in
     let p = picture_of m.tasks.watch.book in
     let q = view c.tell.new.self.tables in
     let v = c.args.event in
-    let o = c.in-ok-outcome.outcome in
-    let step = c.in-ok-outcome.ensures in
+    let o = c.in_ok-outcome.outcome in
+    let step = c.in_ok-outcome.ensures in
     let reached = m.tasks.watch.book.picture.reached in
-    let harmless = c.may-make-dead.ensures c.if-not-may-make-dead.true in
+    let harmless = c.may_make_dead.ensures c.if-not-may_make_dead.true in
     let before = exactly m.names.0 p m.exact in
     record {
       step = step;
@@ -47,21 +46,21 @@ returns-then-not-may-make-dead c =
       names = only_old p q v o reached step harmless m.names.0 before;
     }
 
-pub invariant-of-self-2 : goal.invariant-of-self-2
-invariant-of-self-2 c =
+pub invariant_of-self-2 : goal.invariant_of-self-2
+invariant_of-self-2 c =
     let judged = c.judge-names.ensures in
-    (∣ subst (λ (b : TaskBook). HoldsDead c.judge-names.result (picture_of b)) (sym judged.same) judged.dead ∣₁, tt)
+    record { exact = ∣ subst (λ (b : TaskBook). HoldsDead c.judge-names.result (picture_of b)) (sym judged.same) judged.dead ∣₁ }
 
 pub returns : goal.returns
 returns c =
     let m = c.args.self.now in
     let v = c.args.event in
-    let o = c.in-ok-outcome.outcome in
+    let o = c.in_ok-outcome.outcome in
     let p = picture_of m.tasks.watch.book in
     let q = picture_of c.judge-names.new.self.watch.book in
     let judged = c.judge-names.ensures in
     let new = c.judge-names.result in
-    let step : Step p v o q = subst (λ (b : TaskBook). Step p v o (picture_of b)) (sym judged.same) c.in-ok-outcome.ensures in
+    let step : Step p v o q = subst (λ (b : TaskBook). Step p v o (picture_of b)) (sym judged.same) c.in_ok-outcome.ensures in
     let before = exactly m.names.0 p m.exact in
     let after : HoldsDead new q = subst (λ (b : TaskBook). HoldsDead new (picture_of b)) (sym judged.same) judged.dead in
     record {

@@ -12,6 +12,6 @@ pub returns-in-Accepting : goal.returns-in-Accepting
 returns-in-Accepting c =
     let p = picture_of c.args.self.now in
     let S = has c.args.s.now in
-    let r = c.any-even-besides.result in
-    let asked = subst (λ k. Decides r ((u : ℕ) × (u < most_tasks) × (u ≢ k) × (runs S u ≡ true))) c.from-in-Accepting.ensures c.any-even-besides.ensures in
+    let r = c.any_even_besides.result in
+    let asked = subst (λ k. Decides r ((u : ℕ) × (u < most_tasks) × (u ≢ k) × (runs S u ≡ true))) c.from-in-Accepting.ensures c.any_even_besides.ensures in
     other_marked S c.args.t r asked ∙ ap (runs_with p S c.args.t) (c.in-Accepting.ensures ∙ ap (status p) c.from.ensures)

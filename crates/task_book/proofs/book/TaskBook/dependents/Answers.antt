@@ -8,7 +8,7 @@ use Rattle.task_book.specs.Masks.{Marks}
 use Rattle.task_book.specs.Meaning.{depends}
 use Rattle.task_book.proofs.Masks.{marks_kept, marks_more, marks_none}
 use Rattle.task_book.proofs.book.TaskBook.dependents.Goals as goal
-use Rattle.task_book.proofs.book.TaskBook.dependents.Goals.{then-is-dependent, else-is-dependent}
+use Rattle.task_book.proofs.book.TaskBook.dependents.Goals.{then-is_dependent, else-is_dependent}
 
 pub loop-d-init : goal.loop-d-init
 loop-d-init c = marks_none _
@@ -18,10 +18,10 @@ loop-d-preserved c =
     let n = c.loop-d.d in
     let test : ℕ → Bool = λ d. depends c.args.creator (level_in c.args.levels) ((picture_of c.args.self.now).task d).master in
     let here = ap (depends c.args.creator (level_in c.args.levels)) c.master.ensures in
-    elim c.if-is-dependent.branch [
-      | then-is-dependent w ↦ subst (λ word. Marks word (n + 1) test)
+    elim c.if-is_dependent.branch [
+      | then-is_dependent w ↦ subst (λ word. Marks word (n + 1) test)
           (sym (w.tasks-is ∙ ap (bit_or c.loop-d.tasks) (one_shl n 64 (omega arith))))
-          (marks_more c.loop-d.tasks n test c.loop-d.invariant (sym (w.if-is-dependent.ensures ∙ here)))
-      | else-is-dependent w ↦ subst (λ word. Marks word (n + 1) test) (sym w.tasks-is)
-          (marks_kept c.loop-d.tasks n test c.loop-d.invariant (sym (w.if-is-dependent.ensures ∙ here)))
+          (marks_more c.loop-d.tasks n test c.loop-d.invariant (sym (w.if-is_dependent.ensures ∙ here)))
+      | else-is_dependent w ↦ subst (λ word. Marks word (n + 1) test) (sym w.tasks-is)
+          (marks_kept c.loop-d.tasks n test c.loop-d.invariant (sym (w.if-is_dependent.ensures ∙ here)))
     ]

@@ -11,4 +11,4 @@ pub returns : goal.returns
 returns c =
     let p = picture_of c.args.self.now in
     let test : ℕ → Bool = λ d. depends c.args.creator (level_in c.args.levels) (p.task d).master in
-    all_marked c.dependents.result p.begun test (has c.args.s.now) c.dependents.ensures c.has-all-odd.result c.has-all-odd.ensures
+    all_marked c.dependents.result p.begun test (has c.args.s.now) c.dependents.ensures c.has_all_odd.result c.has_all_odd.ensures

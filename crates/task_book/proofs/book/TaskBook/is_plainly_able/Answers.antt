@@ -17,7 +17,7 @@ returns-in-Accepting c e =
     let b = c.args.self.now in
     let p = picture_of b in
     let some : (u : ℕ) × (status p u ≡ Running) =
-    subst (λ (r : Bool). MatchBool r ((u : ℕ) × (status p u ≡ Running)) ((u : ℕ) → u < p.begun → status p u ≡ Running → ⊥)) e c.some-task-runs.ensures in
+    subst (λ (r : Bool). MatchBool r ((u : ℕ) × (status p u ≡ Running)) ((u : ℕ) → u < p.begun → status p u ≡ Running → ⊥)) e c.some_task_runs.ensures in
     c.loop.invariant (accepting_able p b.picture.reached c.loop.t c.in-Accepting.mask some.0 (sym c.in-Accepting.ensures) some.1)
 
 pub loop-preserved : goal.loop-preserved

@@ -7,4 +7,4 @@ use Rattle.task_book.proofs.book.TaskBook.unfinished.Goals as goal
 pub returns : goal.returns
 returns c =
     let p = picture_of c.args.self.now in
-    marked_both p.begun _ _ c.dependents.result c.not-terminated.result (omega arith) (few_begun c.args.self.now.picture.reached) c.dependents.ensures c.not-terminated.ensures
+    marked_both p.begun _ _ c.dependents.result c.not_terminated.result (omega arith) (few_begun c.args.self.now.picture.reached) c.dependents.ensures c.not_terminated.ensures

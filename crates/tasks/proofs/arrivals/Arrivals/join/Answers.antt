@@ -9,9 +9,9 @@ listed c = let s = c.args.self.now in omega (arith, waiting_is s, s.whole)
 pub bounds-self-self : goal.bounds-self-self
 bounds-self-self c = omega (arith, waiting_is c.args.self.now)
 
-pub invariant-of-self : goal.invariant-of-self
-invariant-of-self c =
-    let s = c.args.self.now in (length-set s.order s.waiting c.args.task ∙ s.whole, (omega (arith, waiting_is s), tt))
+pub invariant_of-self : goal.invariant_of-self
+invariant_of-self c =
+    let s = c.args.self.now in record { whole = length-set s.order s.waiting c.args.task ∙ s.whole; fits = omega (arith, waiting_is s) }
 
 pub returns : goal.returns
 returns c =

@@ -3,5 +3,5 @@ use Rattle.rules.specs.Rules.{none}
 use Rattle.tasks.specs.Promises.{IsReached}
 use Rattle.tasks.proofs.picture.Picture.new.Goals as goal
 
-pub invariant-of-result : goal.invariant-of-result
-invariant-of-result c = (subst IsReached (sym c.new.ensures) ∣ ([], none) ∣₁, tt)
+pub invariant_of-result : goal.invariant_of-result
+invariant_of-result c = record { reached = subst IsReached (sym c.new.ensures) ∣ ([], none) ∣₁ }

@@ -18,11 +18,11 @@ none_open Leaving n = refl
 none_open Completed n = refl
 none_open Terminated n = refl
 
-pub returns-in-default : goal.returns-in-default
-returns-in-default c = sym (ap (λ r. open_entries r.status) (get_or_past c.args.self.now.tables.tasks c.args.task blank (search rules)))
+pub returns-in_default : goal.returns-in_default
+returns-in_default c = sym (ap (λ r. open_entries r.status) (get_or_past c.args.self.now.tables.tasks c.args.task blank (search rules)))
 
 pub returns-in-None : goal.returns-in-None
 returns-in-None c =
-    let known = c.in-Some.ensures.finds.3.1 blank in
+    let known = c.in-Some.ensures.lookup.3.1 blank in
     none_open _ (λ m e. let set = accept_set c.args.task m c.args.self.now.reached e in
     c.in-None.ensures m (ap (λ r. r.status) known ∙ e) (search (rules, known, set)))

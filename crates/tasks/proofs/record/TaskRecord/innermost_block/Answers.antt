@@ -10,4 +10,4 @@ returns-in-Block c =
 pub loop-i-preserved : goal.loop-i-preserved
 loop-i-preserved c =
     let t = c.args.self.now in
-    c.loop-i.invariant ∙ block_under_top t.frames c.loop-i.i _ c.loop-i-test.true (omega (arith, c.loop-i.auto.i, t.whole, t.shallow)) c.in-default.not-Block
+    c.loop-i.invariant ∙ block_under_top t.frames c.loop-i.i _ c.loop-i-test.true (omega (arith, c.loop-i.auto.i, t.whole, t.shallow)) c.in_default.not-Block

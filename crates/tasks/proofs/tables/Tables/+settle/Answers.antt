@@ -7,13 +7,13 @@ use Rattle.tasks.specs.Promises.{Settling}
 use Rattle.tasks.proofs.Endings.{block_front, settling_on}
 use Rattle.tasks.proofs.tables.Tables.+settle.Goals as goal
 
-pub returns-in-default : goal.returns-in-default
-returns-in-default t c = no_master (ap (λ r. r.master) (sym c.task.ensures) ∙ c.in-default.is)
+pub returns-in_default : goal.returns-in_default
+returns-in_default t c = no_master (ap (λ r. r.master) (sym c.task.ensures) ∙ c.in_default.is)
 
-pub invariant-of-m : goal.invariant-of-m
-invariant-of-m t c =
+pub invariant_of-m : goal.invariant_of-m
+invariant_of-m t c =
     let e = ap (λ r. r.master) (sym c.task.ensures) ∙ c.in-Some.is in
-    (omega (arith, c.requires.elder c.args.ended.number c.in-Some.master.creator c.in-Some.master.level (c.requires.begun, e), c.args.ended.small), tt)
+    record { small = omega (arith, c.requires.elder c.args.ended.number c.in-Some.master.creator c.in-Some.master.level (c.requires.begun, e), c.args.ended.small) }
 
 pub returns-then-closes : goal.returns-then-closes
 returns-then-closes t c =
@@ -23,7 +23,7 @@ returns-then-closes t c =
     let k = c.if-closes.ensures in
     let f = block_front (frames p m) (c.requires.leaving m k.0) in
     let level = k.1 ∙ ap length f.1 in
-    subst (λ Q. Settles p c.args.ended.number Q) (sym (c.close-block.ensures Block f.0 f.1))
+    subst (λ Q. Settles p c.args.ended.number Q) (sym (c.close_block.ensures Block f.0 f.1))
     (block_closes (e ∙ ap (under m) level) k.0 f.1 (subst (λ l. Over p m l) level k.2))
 
 pub settle-requires : goal.settle-requires

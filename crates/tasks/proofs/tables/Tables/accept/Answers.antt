@@ -9,28 +9,28 @@ use Rattle.tasks.specs.View.{view, frames_of}
 use Rattle.tasks.proofs.Views.{arrived, proper}
 use Rattle.tasks.proofs.tables.Tables.accept.Goals as goal
 
-pub returns-in-default-first-caller : goal.returns-in-default-first-caller
-returns-in-default-first-caller c =
+pub returns-in_default-first_caller : goal.returns-in_default-first_caller
+returns-in_default-first_caller c =
     let p = view c.args.self.now in
     let a = c.args.actor.number in
     let o = c.in-Some.ensures in
     let room : length (frames p a) < frame_room = omega (arith, ap (λ t. length (frames_of t)) c.task-task.ensures) in
-    let own = proper c.in-Some.open-set o.0 (o.1 ∙ ap (λ t. t.entries) c.task-task.ensures) in
-    let mine = subst (λ m. (e : ℕ) → In e m → queue p a e ≡ []) o.0 c.in-default-first-caller.ensures in
+    let own = proper c.in-Some.open_set o.0 (o.1 ∙ ap (λ t. t.entries) c.task-task.ensures) in
+    let mine = subst (λ m. (e : ℕ) → In e m → queue p a e ≡ []) o.0 c.in_default-first_caller.ensures in
     arrived (c.stop.ensures ∙ ap (λ s. mark p a (stopped s (Accept c.args.mask))) c.requires.acts.1) (waits_to_accept c.requires.acts own room mine)
 
 pub engage-requires : goal.engage-requires
 engage-requires c =
     let a = c.args.actor.number in
-    omega (arith, ap (λ (P : Picture). length (frames P a)) c.leave-queue.ensures, ap (λ t. length (frames_of t)) c.task-task.ensures)
+    omega (arith, ap (λ (P : Picture). length (frames P a)) c.leave_queue.ensures, ap (λ t. length (frames_of t)) c.task-task.ensures)
 
 pub returns : goal.returns
 returns c =
     let p = view c.args.self.now in
     let a = c.args.actor.number in
     let o = c.in-Some.ensures in
-    let k = c.in-Some-first-caller.caller in
+    let k = c.in-Some-first_caller.caller in
     let room : length (frames p a) < frame_room = omega (arith, ap (λ t. length (frames_of t)) c.task-task.ensures) in
-    let own = proper c.in-Some.open-set o.0 (o.1 ∙ ap (λ t. t.entries) c.task-task.ensures) in
-    arrived (c.engage.ensures ∙ ap (λ (P : Picture). engage P k.task.number a k.entry) c.leave-queue.ensures)
-    (takes c.requires.acts own room (subst (λ m. Takes p a m k.task.number k.entry) o.0 c.in-Some-first-caller.ensures))
+    let own = proper c.in-Some.open_set o.0 (o.1 ∙ ap (λ t. t.entries) c.task-task.ensures) in
+    arrived (c.engage.ensures ∙ ap (λ (P : Picture). engage P k.task.number a k.entry) c.leave_queue.ensures)
+    (takes c.requires.acts own room (subst (λ m. Takes p a m k.task.number k.entry) o.0 c.in-Some-first_caller.ensures))

@@ -6,13 +6,13 @@ use Rattle.tasks.proofs.Views.{arrived}
 use Rattle.tasks.proofs.Reach.{few_begun, accept_room, accept_set, line_room}
 use Rattle.tasks.proofs.tables.Tables.call.Goals as goal
 
-pub invariant-of-s : goal.invariant-of-s
-invariant-of-s c = (omega (arith, few_begun c.requires.reached), tt)
+pub invariant_of-s : goal.invariant_of-s
+invariant_of-s c = record { small = omega (arith, few_begun c.requires.reached) }
 
-pub returns-then-has-finished : goal.returns-then-has-finished
-returns-then-has-finished c =
+pub returns-then-has_finished : goal.returns-then-has_finished
+returns-then-has_finished c =
     let has : c.args.entry < ((view c.args.self.now).task c.args.server).entries = omega (arith, ap (λ t. t.entries) c.task-task.ensures) in
-    errs c.requires.acts (omega arith) has (subst (λ t. (t.status ≡ Completed) ⊎ (t.status ≡ Terminated)) c.task-task.ensures c.if-has-finished.ensures)
+    errs c.requires.acts (omega arith) has (subst (λ t. (t.status ≡ Completed) ⊎ (t.status ≡ Terminated)) c.task-task.ensures c.if-has_finished.ensures)
 
 pub engage-requires : goal.engage-requires
 engage-requires c =
@@ -33,6 +33,6 @@ returns c =
     let p = view c.args.self.now in
     let s = c.args.server in
     let has : c.args.entry < (p.task s).entries = omega (arith, ap (λ t. t.entries) c.task-task.ensures) in
-    let n = subst (λ t. (t.status ≢ Completed) × (t.status ≢ Terminated)) c.task-task.ensures c.if-has-finished.ensures in
+    let n = subst (λ t. (t.status ≢ Completed) × (t.status ≢ Terminated)) c.task-task.ensures c.if-has_finished.ensures in
     let o = subst (λ t. (m : ℕ) → t.status ≡ Accepting m → IsOpenSet t.entries m → In c.args.entry m → ⊥) c.task-task.ensures c.if-accepts.ensures in
     arrived c.join.ensures (queues c.requires.acts (omega arith) has n.0 n.1 (λ m e. o m e (accept_set s m c.requires.reached e)))

@@ -5,13 +5,13 @@ use Rattle.rules.specs.Changes.{let_go, turn}
 use Rattle.tasks.specs.View.{view, frames_of}
 use Rattle.tasks.proofs.tables.Tables.close_block.Goals as goal
 
-pub leave-frame-requires : goal.leave-frame-requires
-leave-frame-requires c = let m = c.args.t.number in omega (arith, ap (λ (P : Picture). length (frames P m)) c.let-go.ensures)
+pub leave_frame-requires : goal.leave_frame-requires
+leave_frame-requires c = let m = c.args.t.number in omega (arith, ap (λ (P : Picture). length (frames P m)) c.let_go.ensures)
 
 pub returns : goal.returns
 returns c f fs e =
     let m = c.args.t.number in
     let p = view c.args.self.now in
-    let level = c.open-frames-level.ensures ∙ ap (λ t. length (frames_of t)) c.task.ensures ∙ ap length e in
-    let gone = c.let-go.ensures ∙ ap (λ n. let_go p m n) level in
-    c.leave-frame.ensures f fs (ap (λ (P : Picture). frames P m) gone ∙ e) ∙ ap (λ (P : Picture). turn P m Running fs) gone
+    let level = c.open_frames-level.ensures ∙ ap (λ t. length (frames_of t)) c.task.ensures ∙ ap length e in
+    let gone = c.let_go.ensures ∙ ap (λ n. let_go p m n) level in
+    c.leave_frame.ensures f fs (ap (λ (P : Picture). frames P m) gone ∙ e) ∙ ap (λ (P : Picture). turn P m Running fs) gone

@@ -8,13 +8,13 @@ use Rattle.tasks.proofs.Views.{arrived}
 use Rattle.tasks.proofs.Reach.{partner_small}
 use Rattle.tasks.proofs.tables.Tables.end_rendezvous.Goals as goal
 
-pub invariant-of-caller : goal.invariant-of-caller
-invariant-of-caller c =
+pub invariant_of-caller : goal.invariant_of-caller
+invariant_of-caller c =
     let x = c.in-Some.ensures in
-    (partner_small c.args.actor.number c.in-Some.partner x.0 x.1 c.requires.reached (sym (ap frames_of c.task.ensures) ∙ x.2), tt)
+    record { small = partner_small c.args.actor.number c.in-Some.partner x.0 x.1 c.requires.reached (sym (ap frames_of c.task.ensures) ∙ x.2) }
 
 pub returns : goal.returns
 returns c =
     let x = c.in-Some.ensures in
     let f = sym (ap frames_of c.task.ensures) ∙ x.2 in
-    arrived (c.mark.ensures ∙ ap (λ (P : Picture). mark P c.in-Some.partner Running) (c.leave-frame.ensures _ x.1 f)) (ends_rendezvous c.requires.acts f)
+    arrived (c.mark.ensures ∙ ap (λ (P : Picture). mark P c.in-Some.partner Running) (c.leave_frame.ensures _ x.1 f)) (ends_rendezvous c.requires.acts f)

@@ -6,7 +6,7 @@ use Rattle.tasks.proofs.tables.Tables.first_caller.Given as goal
 
 -- no open entry so far has a caller
 abbrev pub invariant-loop-e : goal.invariant-loop-e
-invariant-loop-e l = (f : ℕ) → f < l.e → In f l.open-set.mask → queue (view l.self) l.server.number f ≡ []
+invariant-loop-e l = (f : ℕ) → f < l.e → In f l.open_set.mask → queue (view l.self) l.server.number f ≡ []
 
 -- none of those so far is queued at the entry
 abbrev pub invariant-loop-i : goal.invariant-loop-i

@@ -10,23 +10,23 @@ use Rattle.tasks.proofs.Views.{arrived}
 use Rattle.tasks.proofs.Reach.{few_begun}
 use Rattle.tasks.proofs.tables.Tables.leave_block.Goals as goal
 
-pub block-is-over-requires : goal.block-is-over-requires
-block-is-over-requires c = few_begun c.requires.reached
+pub block_is_over-requires : goal.block_is_over-requires
+block_is_over-requires c = few_begun c.requires.reached
 
-pub returns-then-block-is-over : goal.returns-then-block-is-over
-returns-then-block-is-over c =
+pub returns-then-block_is_over : goal.returns-then-block_is_over
+returns-then-block_is_over c =
     let p = view c.args.self.now in
     let a = c.args.actor.number in
-    let b = c.if-not-in-block.ensures in
+    let b = c.if-not-in_block.ensures in
     let fe = sym (ap frames_of c.task.ensures) ∙ b.1 in
-    let level = c.open-frames-level.ensures ∙ ap (λ t. length (frames_of t)) c.task-2.ensures ∙ ap length fe in
-    arrived (c.close-block.ensures Block b.0 fe) (leaves c.requires.acts fe (subst (λ l. Over p a l) level c.if-block-is-over.ensures))
+    let level = c.open_frames-level.ensures ∙ ap (λ t. length (frames_of t)) c.task-2.ensures ∙ ap length fe in
+    arrived (c.close_block.ensures Block b.0 fe) (leaves c.requires.acts fe (subst (λ l. Over p a l) level c.if-block_is_over.ensures))
 
 pub returns : goal.returns
 returns c =
     let p = view c.args.self.now in
     let a = c.args.actor.number in
-    let b = c.if-not-in-block.ensures in
+    let b = c.if-not-in_block.ensures in
     let fe = sym (ap frames_of c.task.ensures) ∙ b.1 in
-    let level = c.open-frames-level.ensures ∙ ap (λ t. length (frames_of t)) c.task-2.ensures ∙ ap length fe in
-    arrived (c.stop.ensures ∙ ap (λ s. mark p a (stopped s LeaveBlock)) c.requires.acts.1) (waits_to_leave c.requires.acts fe (subst (λ l. Over p a l → ⊥) level c.if-block-is-over.ensures))
+    let level = c.open_frames-level.ensures ∙ ap (λ t. length (frames_of t)) c.task-2.ensures ∙ ap length fe in
+    arrived (c.stop.ensures ∙ ap (λ s. mark p a (stopped s LeaveBlock)) c.requires.acts.1) (waits_to_leave c.requires.acts fe (subst (λ l. Over p a l → ⊥) level c.if-block_is_over.ensures))

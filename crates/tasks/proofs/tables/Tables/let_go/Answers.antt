@@ -9,7 +9,7 @@ loop-task-preserved c =
     let h : i < length xs = omega (arith, c.loop-task.auto.task-items) in
     let m = c.args.creator.number in
     let l = c.args.level in
-    (λ k. let_go_one m l xs i _ c.let-go.new.self h c.let-go.ensures k ∙ c.loop-task.invariant.0 k, let_go_more m l xs i _ c.let-go.new.self h c.let-go.ensures c.loop-task.invariant.1)
+    (λ k. let_go_one m l xs i _ c.let_go.new.self h c.let_go.ensures k ∙ c.loop-task.invariant.0 k, let_go_more m l xs i _ c.let_go.new.self h c.let_go.ensures c.loop-task.invariant.1)
 
 pub returns : goal.returns
 returns c =
