@@ -1,11 +1,11 @@
 -- Taking the lowest member of one of the two words takes the first point of the set.
-use Rattle.std.proofs.Common.{◌≡◌, ℕ, ◌+◌, ◌*◌, ◌/◌, ◌%◌, ◌<◌, Bool, true, false, not, ◌&&◌, eqb, sym, refl, ap, ◌∙◌, subst, inl, inr, arith}
+use Rattle.std.proofs.Common.{◌≡◌, ℕ, ◌+◌, ◌*◌, ◌/◌, ◌%◌, Bool, true, false, not, ◌&&◌, eqb, sym, refl, ap, ◌∙◌, inl, inr, arith}
 use Rattle.std.proofs.lemmas.Bool.{cases_eq, ne_eqb}
 use Rattle.std.proofs.lemmas.Bool.Decides.{nat_tests}
 use Rattle.books.specs.declared.points.PointSet.{PointSet}
 use Rattle.books.specs.Members.{LowestTaken}
 use Rattle.books.specs.Points.{bit, has}
-use Rattle.books.specs.Taking.{ComesBefore, PointTaken}
+use Rattle.books.specs.Taking.{PointTaken}
 use Rattle.books.proofs.Binary.{zero_bit}
 use Rattle.books.proofs.Words.{even_point, has_even, has_odd, odd_point}
 

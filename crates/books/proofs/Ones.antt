@@ -1,5 +1,5 @@
 -- How many binary digits of a number are 1.
-use Rattle.std.proofs.Common.{◌≡◌, ℕ, zero, suc, ◌+◌, ◌-◌, ◌*◌, ◌/◌, ◌%◌, ◌^◌, ◌<◌, ◌≤◌, Bool, true, false, cond, eqb, ◌⊎◌, sym, refl, ap, ◌∙◌, inl, inr, ⊎_elim, mod-lt, mod-eq_of_lt, pow-suc, add-one, one-add, arith, pow_pos, shr_lt}
+use Rattle.std.proofs.Common.{◌≡◌, ℕ, zero, suc, ◌+◌, ◌-◌, ◌/◌, ◌%◌, ◌^◌, ◌<◌, cond, eqb, sym, refl, ap, ◌∙◌, ⊎_elim, mod-lt, add-one, one-add, arith, pow_pos, shr_lt}
 use lib.Pow.{split, field, mod-mod-pow}
 use lib.Count.{ones, ones_cat}
 use Rattle.std.proofs.lemmas.Bool.{cases_eq}

@@ -1,5 +1,5 @@
 -- A set of points, from the two words that it is kept in.
-use Rattle.std.proofs.Common.{◌≡◌, ℕ, zero, suc, ◌+◌, ◌-◌, ◌*◌, ◌/◌, ◌%◌, ◌^◌, ◌<◌, ◌≤◌, min, Bool, true, false, cond, not, ◌&&◌, ◌||◌, eqb, ltb, ◌≢◌, Decides, sym, refl, ap, ◌∙◌, inl, inr, ⊎_elim, add-one, arith}
+use Rattle.std.proofs.Common.{◌≡◌, ℕ, zero, suc, ◌+◌, ◌-◌, ◌*◌, ◌/◌, ◌%◌, ◌^◌, ◌<◌, ◌≤◌, min, Bool, true, false, cond, not, ◌&&◌, ◌||◌, eqb, ltb, ◌≢◌, Decides, sym, refl, ap, ◌∙◌, inl, inr, ⊎_elim, arith}
 use lib.Bits.{bit_and, bit_or}
 use lib.Count.{ones, count_trailing_zeros}
 use Rattle.std.proofs.lemmas.Nat.{and_le_l}

@@ -1,5 +1,5 @@
 -- A word as a set of numbers, and its members one by one.
-use Rattle.std.specs.Prelude.{◌≡◌, ℕ, ◌<◌, Bool, true, false, not, ◌&&◌, Option, MatchOption, ◌==◌}
+use Rattle.std.specs.Prelude.{◌≡◌, ℕ, ◌<◌, true, false, not, ◌&&◌, Option, MatchOption, ◌==◌}
 use Rattle.books.specs.Points.{bit}
 
 -- k is the lowest member of a set, and after it is taken out another set is left

@@ -1,4 +1,6 @@
 // Wait books, sets of their points, and judging: one text for every kind of book.
+#![tactic(auto)]
+
 mod book;
 mod members;
 mod points;

@@ -1,5 +1,5 @@
 // A wait book under watch, and judging.
-ghost use Rattle.std.specs.Prelude.{◌≡◌, ℕ, ◌+◌, ◌<◌, ◌≤◌, Bool, true, false};
+ghost use Rattle.std.specs.Prelude.{◌≡◌, ℕ, ◌+◌, ◌<◌, ◌≤◌, Bool, true, false, not, ◌&&◌};
 ghost use Rattle.books.specs.Passes.{Reached, Settled};
 ghost use Rattle.books.specs.Points.{has};
 ghost use Rattle.books.specs.Shut.{LargestShut, outside, size};
@@ -11,6 +11,13 @@ use crate::{PointSet, WaitBook};
 pub struct Watch<B> {
     pub book: B,
     out: PointSet,
+}
+
+// Whether `p` is not reached yet and follows from the points that are.
+fn is_next<B: WaitBook>(book: &B, p: usize, reached: &PointSet) -> bool
+    ensures { result ≡ (not (has reached.now p) && B.meaning book.now p (has reached.now)) }
+{
+    !reached.contains(p) && book.follows(p, reached)
 }
 
 // The points of the book that are not reached yet.
@@ -30,7 +37,7 @@ fn pass<B: WaitBook>(book: &B, reached: &mut PointSet) -> bool
     let mut grew = false;
     let mut rest = unreached::<B>(reached);
     while let Some(p) = rest.take() {
-        if book.follows(p, reached) {
+        if is_next(book, p, reached) {
             reached.insert(p);
             grew = true;
         }

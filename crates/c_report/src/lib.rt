@@ -1,4 +1,6 @@
 // The monitor for callers in C, Ada and Rust: numbers and byte slices, a slice being a pointer and then a length.
+#![tactic(auto)]
+
 ghost use Rattle.std.specs.Prelude.{ℕ, Result};
 ghost use Rattle.refusals.specs.declared.Refusal.{Refusal as Cause};
 ghost use Rattle.monitor.specs.Bench.{TapeReported};

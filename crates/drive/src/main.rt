@@ -1,5 +1,7 @@
 // Drives a monitor through 100,000 events of a mixed script over 64 tasks, and prints only counts, so that the time of an event
 // can be measured from outside.
+#![tactic(auto)]
+
 use monitor::Monitor;
 use std::alloc::{AllocError, Global};
 use std::io;

@@ -1,4 +1,6 @@
 // Reads event lines from standard input, and prints for each the event that it spells, or the refusal's number and sentence.
+#![tactic(auto)]
+
 use lines::{next_line, read_event};
 use std::io;
 use std::io::Read;

@@ -1,11 +1,11 @@
 -- The line of an event is read as that event.
-use Rattle.std.proofs.Common.{◌≡◌, ℕ, ◌+◌, ◌*◌, ◌≤◌, List, [], ◌∷◌, ◌++◌, length, Ok, Err, decimal, Result, sym, refl, ap, ◌∙◌, subst, arith}
+use Rattle.std.proofs.Common.{ℕ, ◌+◌, ◌*◌, ◌≤◌, List, [], ◌∷◌, length, Ok, Err, Result, sym, refl, ap, ◌∙◌, subst, arith}
 use Rattle.std.proofs.lemmas.Fmt.{length-decimal-le}
 use Rattle.std.proofs.lemmas.List.{length-append}
 use Rattle.refusals.specs.declared.Refusal.{Refusal}
 use Rattle.rules.specs.declared.vocabulary.Event.{Event}
 use Rattle.lines.specs.Lines.{spell, Small, Spelled}
-use Rattle.lines.specs.Events.{letter, arity, kind, numbers, spell_event, known, counted, ReadsEvent, ReadsEveryEvent}
+use Rattle.lines.specs.Events.{letter, kind, numbers, spell_event, known, counted, ReadsEvent, ReadsEveryEvent}
 use Rattle.lines.proofs.Letters.{kind_from_letter, no_comma, event_told, length_numbers, arity_most}
 use Rattle.lines.proofs.Spelling.{spelled_once, not_refused}
 

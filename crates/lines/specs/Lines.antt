@@ -1,6 +1,6 @@
 -- Lines: how a letter and numbers are written, which lines are read as what, and how every other line is refused.
 -- A reader knows some letters, known l, and of each how many numbers may follow it, counted l n.
-use Rattle.std.specs.Prelude.{◌≡◌, ℕ, ◌+◌, ◌<◌, ◌≤◌, List, [], ◌∷◌, length, take, Ok, Err, decimal, Result, slice_index, slice_index_or}
+use Rattle.std.specs.Prelude.{◌≡◌, ℕ, ◌+◌, ◌<◌, ◌≤◌, List, [], ◌∷◌, length, take, decimal, Result, slice_index, slice_index_or}
 use Rattle.std.specs.List.{flat_map, AllByRecursion as All}
 use Rattle.std.specs.Result as results
 use Rattle.refusals.specs.declared.Refusal.{Refusal}

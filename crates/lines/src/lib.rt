@@ -1,4 +1,6 @@
 // Lines: a letter and decimal numbers, parted by commas; read as the inverse of how they are written.
+#![tactic(auto)]
+
 mod events;
 mod fields;
 mod numbers;

@@ -1,5 +1,5 @@
 -- An accepted begin: the child has the next number and is Running, and so is its creator.
-use Rattle.std.proofs.Common.{◌≡◌, ℕ, ◌<◌, sym, refl, ap, ◌∙◌, arith}
+use Rattle.std.proofs.Common.{◌≡◌, ℕ, ◌<◌, ap, ◌∙◌, arith}
 use Rattle.rules.specs.declared.vocabulary.Action.TheVariants.{Begin}
 use Rattle.rules.specs.declared.vocabulary.Event.{Event}
 use Rattle.rules.specs.declared.vocabulary.Outcome.{Outcome}

@@ -1,19 +1,17 @@
 -- After every run the names are exactly the dead tasks.
-use Rattle.std.proofs.Common.{◌≡◌, ℕ, zero, suc, Bool, true, false, ◌||◌, ◌≢◌, ◌⊎◌, ◌↔◌, List, [], ◌∷◌, ◌++◌, Ok, Err, Result, sym, refl, ap, ◌∙◌, subst, inl, inr, ⊎_elim, arith}
+use Rattle.std.proofs.Common.{◌≡◌, ℕ, zero, suc, Bool, true, false, ◌↔◌, List, [], ◌∷◌, Ok, Err, sym, refl, ◌∙◌, subst, inl, inr, ⊎_elim, arith}
 use Rattle.std.proofs.lemmas.Bool.{both_ways, or_cases, or_left, or_right, cases_Bool}
-use Rattle.refusals.specs.declared.Refusal.{Refusal}
 use Rattle.rules.specs.declared.vocabulary.Event.{Event}
 use Rattle.rules.specs.declared.vocabulary.Outcome.{Outcome}
 use Rattle.rules.specs.Dead.{Dead}
-use Rattle.rules.specs.Picture.{Picture, fresh, status}
-use Rattle.rules.specs.Rules.{Step, Steps, none, more, Reached}
+use Rattle.rules.specs.Picture.{Picture, fresh}
+use Rattle.rules.specs.Rules.{Step, none, more, Reached}
 use Rattle.rules.proofs.NamedStayDead.Steps.{lasts}
 use Rattle.rules.proofs.WaysOut.Drain.{steps_append}
-use Rattle.tape.specs.declared.tape.PlayRefusal.{PlayRefusal}
 use Rattle.tape.specs.declared.tape.PlayRefusal.TheVariants.{LineRefused, TapeTooLong}
 use Rattle.tape.specs.Tapes.{Accepts as LinesAccepted}
-use Rattle.monitor.specs.State.{State, New, Accepts, LineTold, TapePlayed}
-use Rattle.monitor.specs.Runs.{Call, accepted, refused, played, Leads, Run, new, next, Exact, EveryRunIsExact}
+use Rattle.monitor.specs.State.{State, New, Accepts, LineTold}
+use Rattle.monitor.specs.Runs.{Call, accepted, refused, played, Leads, Run, new, next, EveryRunIsExact}
 
 -- a dead task stays dead
 pub dead_stays : {p q : Picture} {v : Event} {o : Outcome} → Step p v o q → (t : ℕ) → Dead p t → Dead q t

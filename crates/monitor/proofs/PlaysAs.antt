@@ -1,5 +1,5 @@
 -- What a tape makes of a monitor is what it makes of the state that the monitor stands for.
-use Rattle.std.proofs.Common.{◌≡◌, ℕ, List, [], ◌∷◌, Ok, Err, Result, ap}
+use Rattle.std.proofs.Common.{ℕ, List, [], ◌∷◌, Ok, Err, Result, ap}
 use Rattle.tape.specs.declared.tape.PlayRefusal.{PlayRefusal}
 use Rattle.tape.specs.declared.tape.PlayRefusal.TheVariants.{LineRefused, TapeTooLong}
 use Rattle.tape.specs.Tapes.{Accepts, Played}

@@ -1,5 +1,5 @@
 -- The questions are answered by the dead.
-use Rattle.std.proofs.Common.{◌≡◌, ℕ, ◌≤◌, Bool, true, false, ◌↔◌, Some, None, Option, sym, refl, ap, ◌∙◌, subst, MatchOption}
+use Rattle.std.proofs.Common.{◌≡◌, ℕ, ◌≤◌, Bool, true, false, ◌↔◌, Some, None, Option, sym, refl, ◌∙◌, MatchOption}
 use Rattle.std.proofs.lemmas.Bool.{both_ways}
 use Rattle.books.specs.Shut.{size}
 use Rattle.books.proofs.Sets.{size_same}

@@ -1,5 +1,5 @@
 -- What a monitor stands for.
-use Rattle.std.specs.Prelude.{◌≡◌, ℕ, Ok, Err, Result, MatchResult}
+use Rattle.std.specs.Prelude.{◌≡◌, ℕ, Result, MatchResult}
 use Rattle.refusals.specs.declared.Refusal.{Refusal}
 use Rattle.rules.specs.declared.vocabulary.Event.{Event}
 use Rattle.rules.specs.declared.vocabulary.Outcome.{Outcome}

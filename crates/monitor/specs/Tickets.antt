@@ -1,7 +1,6 @@
 -- What a told event and an exchange make of a ticket.
 use Rattle.std.specs.Prelude.{◌≡◌, ℕ, Result, MatchResult}
 use Rattle.books.specs.Points.{bit}
-use Rattle.refusals.specs.declared.Refusal.{Refusal}
 use Rattle.rules.specs.declared.vocabulary.Action.{Action}
 use Rattle.rules.specs.declared.vocabulary.Action.TheVariants.{Begin, Finish}
 use Rattle.rules.specs.declared.vocabulary.Outcome.{Outcome}

@@ -1,4 +1,6 @@
 // The monitor: it is told what tasks do, and names those that can never go on.
+#![tactic(auto)]
+
 mod bench;
 mod law;
 mod monitor;

@@ -1,4 +1,6 @@
 // Why the project refuses a line, a row, an event, a tape or a report: one table for all crates.
+#![tactic(auto)]
+
 ghost use Rattle.std.specs.Prelude.{◌≡◌};
 ghost use Rattle.refusals.specs.Table.{number_of};
 

@@ -1,7 +1,6 @@
 -- Laws of bytes laid into a buffer.
-use Rattle.std.proofs.Common.{◌≡◌, ℕ, zero, suc, ◌+◌, ◌/◌, ◌%◌, ◌^◌, ◌<◌, ◌≤◌, List, [], ◌∷◌, ◌++◌, length, take, drop, set, sym, refl, ap, ◌∙◌, subst, add-zero, arith}
-use Rattle.std.proofs.lemmas.List.{length-set, length-append, take_more_set, drop-set-lt, take-set-le, append_assoc, append-nil, set_past}
-use Rattle.std.proofs.lemmas.Fmt.{decimal_step, length-decimal-le}
+use Rattle.std.proofs.Common.{◌≡◌, ℕ, ◌+◌, ◌≤◌, List, [], ◌∷◌, ◌++◌, length, take, drop, set, sym, refl, ap, ◌∙◌, subst, add-zero, arith}
+use Rattle.std.proofs.lemmas.List.{length-set, length-append, take_more_set, drop-set-lt, append_assoc, append-nil}
 use Rattle.reports.specs.Layout.{over, Puts}
 
 pub length_over : (xs : List ℕ) (at : ℕ) (bs : List ℕ) → length (over xs at bs) ≡ length xs

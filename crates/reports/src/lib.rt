@@ -1,4 +1,6 @@
 // The report: a line for each named task and a closing line, written into a buffer of the caller's.
+#![tactic(auto)]
+
 mod layout;
 mod report;
 

@@ -1,5 +1,5 @@
 -- Events that make nobody dead.
-use Rattle.std.proofs.Common.{ℕ, ◌⊎◌, inl, inr}
+use Rattle.std.proofs.Common.{ℕ, inl, inr}
 use Rattle.rules.specs.Book.{Named}
 use Rattle.rules.specs.Dead.{Dead}
 use Rattle.rules.specs.Picture.{Picture}

@@ -1,4 +1,6 @@
 // The task rules: the words of the subject, and the theorems on what tasks do and which of them can never go on.
+#![tactic(auto)]
+
 mod theorems;
 mod vocabulary;
 

@@ -1,4 +1,6 @@
 // Reads the lines of a wait sheet from standard input, judges it, and prints what was done.
+#![tactic(auto)]
+
 use sheets::{INPUT_ROOM, judged_page};
 use std::io;
 use std::io::Read;

@@ -1,4 +1,6 @@
 // Judges each stored sheet that is named, and prints its name and its page; then two inputs at the limit of their length.
+#![tactic(auto)]
+
 use sheets::{INPUT_ROOM, judged_page};
 use std::alloc::Global;
 use std::{env, fs, io};

@@ -1,5 +1,5 @@
 -- What a sheet answers to a line, from what it answers to the row that the line spells; and that no line has two answers.
-use Rattle.std.proofs.Common.{◌≡◌, ℕ, ◌≤◌, Bool, true, false, cond, eqb, leb, List, [], ◌∷◌, length, get_or, drop, Ok, Err, count_by, Result, sym, refl, ap, ◌∙◌, subst, arith}
+use Rattle.std.proofs.Common.{◌≡◌, ℕ, ◌≤◌, Bool, cond, eqb, leb, List, [], ◌∷◌, length, get_or, drop, Ok, Err, count_by, Result, sym, refl, ap, ◌∙◌, subst, arith}
 use Rattle.refusals.specs.declared.Refusal.{Refusal}
 use Rattle.refusals.specs.Checks.{FirstRefusal}
 use Rattle.refusals.proofs.Checks.{none_refuses, one_refuses}

@@ -1,6 +1,6 @@
 -- The rows of a wait sheet: its meaning is a wait book's, and a row that is put in changes it at one party.
-use Rattle.std.specs.Prelude.{◌≡◌, ℕ, zero, suc, ◌+◌, ◌-◌, ◌<◌, ◌≤◌, Bool, true, false, cond, not, ◌&&◌, ◌||◌, ◌⊎◌, List, [], ◌∷◌, length, get_or, take, set, replicate, Some, None, count_by, Option, ◌==◌, ◌≢◌, nat_eq, nat_le, nat_lt, slice_index, slice_index_or, slice_set, refl}
-use Rattle.std.proofs.Common.{sym, ap, ◌∙◌, inl, inr, ⊎_elim, arith, below_more}
+use Rattle.std.specs.Prelude.{◌≡◌, ℕ, ◌+◌, ◌<◌, ◌≤◌, Bool, true, false, cond, ◌&&◌, ◌||◌, List, length, get_or, take, replicate, Some, None, count_by, Option, ◌==◌, ◌≢◌, nat_eq, nat_le, nat_lt, slice_index, slice_index_or, slice_set, refl}
+use Rattle.std.proofs.Common.{sym, ap, ◌∙◌, ⊎_elim, arith, below_more}
 use Rattle.std.proofs.lemmas.List.Sums.{sum_by_more}
 use Rattle.std.proofs.lemmas.List.{get_or-replicate, get_or-set_same, get_or-set_other, take_all}
 use Rattle.std.proofs.lemmas.Bool.{both_ways, leb-true, le-leb, lt-ltb, le-ltb, cases_lt, and_parts, and_from, and_left, eqb-true, ne_eqb, eq-eqb, or_cases, cases_eq}
@@ -10,7 +10,7 @@ use Rattle.sheets.specs.Rows.{Once}
 use Rattle.sheets.specs.Sheets.{follow, row_follow, Replaces}
 use Rattle.sheets.specs.declared.sheet.Row.{Row}
 use Rattle.sheets.specs.declared.sheet.WaitSheet.{WaitSheet}
-use Rattle.books.proofs.Sets.{size_inside, size_none, size_same, size_one_more, Adds, adds_inside, adds_has}
+use Rattle.books.proofs.Sets.{size_inside, size_none, size_one_more, Adds, adds_inside, adds_has}
 
 pub row_grows : (o : Option Row) (S T : ℕ → Bool) → Inside S T → row_follow o S ≡ true → row_follow o T ≡ true
 row_grows None S T i h = refl

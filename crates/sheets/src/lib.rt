@@ -1,4 +1,6 @@
 // Wait sheets: their rows, the lines that write them, and what is printed of a judged sheet.
+#![tactic(auto)]
+
 mod page;
 mod rows;
 mod sheet;

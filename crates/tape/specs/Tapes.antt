@@ -2,7 +2,7 @@
 -- steps s line (Err e) where it is refused with e.
 use Rattle.std.specs.Prelude.{◌≡◌, ℕ, ◌<◌, ◌≤◌, List, [], ◌∷◌, length, take, Ok, Err, Result, MatchResult, slice_index_or}
 use Rattle.refusals.specs.declared.Refusal.{Refusal}
-use Rattle.refusals.specs.declared.Refusal.TheVariants.{LineRefused as line_Refused, InputTooLong}
+use Rattle.refusals.specs.declared.Refusal.TheVariants.{LineRefused as line_refused, InputTooLong}
 use Rattle.refusals.specs.Table.{number_of}
 use Rattle.lines.specs.Pieces.{lines_of}
 use Rattle.tape.specs.declared.tape.PlayRefusal.{PlayRefusal}
@@ -14,7 +14,7 @@ tape_room = 65536
 
 -- the number by which a refusal to play is reported
 abbrev pub play_number : PlayRefusal → ℕ
-play_number (LineRefused told) = number_of line_Refused
+play_number (LineRefused told) = number_of line_refused
 play_number TapeTooLong = number_of InputTooLong
 
 module _ {S : Type 0} (steps : S → List ℕ → Result S Refusal → Type 0) where

@@ -1,4 +1,6 @@
 // Plays every stored tape, in the order of their names, and prints the name and the report of each.
+#![tactic(auto)]
+
 use monitor::report_of_tape;
 use std::io::Write;
 use std::{fs, io};
@@ -13,7 +15,7 @@ fn names(rt: &HostRuntime) -> io::Result<Vec<String>> {
             names.push(String::from_str(heap, name)?)?;
         }
     }
-    names.sort();
+    names.sort()?;
     Ok(names)
 }
 

@@ -1,5 +1,5 @@
 -- How many tasks are in two words.
-use Rattle.std.proofs.Common.{◌≡◌, ℕ, ◌+◌, ◌-◌, ◌^◌, ◌<◌, ◌≤◌, Bool, true, ◌&&◌, ltb, sym, refl, ap, ◌∙◌, arith}
+use Rattle.std.proofs.Common.{◌≡◌, ℕ, ◌+◌, ◌-◌, ◌^◌, ◌<◌, ◌≤◌, Bool, true, ◌&&◌, ltb, sym, ap, ◌∙◌, arith}
 use lib.Bits.{bit_and, and_le_l}
 use lib.Count.{ones}
 use Rattle.std.proofs.lemmas.Bool.{and_parts, ltb-true, lt-ltb}

@@ -1,12 +1,10 @@
 -- Tasks that plainly are able.
-use Rattle.std.proofs.Common.{◌≡◌, ℕ, ◌<◌, not, T, ◌≢◌, sym, ◌∙◌, subst, arith}
+use Rattle.std.proofs.Common.{◌≡◌, ℕ, T, ◌≢◌, sym, ◌∙◌, subst, arith}
 use mathlib.Core.Logic.{∥∥₁_elim}
-use mathlib.Core.HLevel.{¬_prop}
 use lib.Dec.{not_T}
 use Rattle.rules.specs.declared.vocabulary.Status.{Status}
 use Rattle.rules.specs.declared.vocabulary.Status.TheVariants.{NotBegun, Running, Queued, Accepting}
 use Rattle.rules.specs.Book.{Able, CanRunWith, outside, Points, Shut}
-use Rattle.rules.specs.Limits.{most_tasks}
 use Rattle.rules.specs.Picture.{Picture, status}
 use Rattle.rules.specs.Rules.{Reached}
 use Rattle.rules.proofs.Basics.Statuses.{clash}

@@ -9,7 +9,7 @@ use Rattle.rules.specs.Book as rules
 use Rattle.rules.specs.Limits.{most_tasks}
 use Rattle.rules.specs.Picture.{Picture}
 use Rattle.rules.proofs.Judging.Law.{ends_law, runs_law}
-use Rattle.task_book.specs.Meaning.{ends, meaning_of, points, runs}
+use Rattle.task_book.specs.Meaning.{meaning_of, points}
 use Rattle.task_book.specs.Names.{left_out}
 use Rattle.task_book.specs.Decides.{decides_T, end_point, run_point}
 

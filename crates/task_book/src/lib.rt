@@ -1,4 +1,6 @@
 // The task book: a wait book over the tasks of a picture, and the names that judging it leaves.
+#![tactic(auto)]
+
 mod able;
 mod book;
 mod levels;

@@ -1,4 +1,6 @@
 // The executable picture: the tables of tasks, and the events on them.
+#![tactic(auto)]
+
 mod arrivals;
 mod blocks;
 mod calls;

@@ -1,4 +1,6 @@
 // Two stories of tracking boxes, told through tickets: each event, its outcome, and the tasks that it gets named.
+#![tactic(auto)]
+
 use monitor::{Monitor, RunningTicket, Told, WaitingTicket};
 use rules::{Action, Outcome};
 use std::io;

@@ -1,5 +1,7 @@
 // A wait book laid over any other: some of its points never follow, whatever the book below says. It answers what would be
 // left out if these were lost.
+#![tactic(auto)]
+
 ghost use Rattle.std.specs.Prelude.{◌≡◌, not, ◌&&◌};
 ghost use Rattle.books.specs.Points.{has};
 ghost use Rattle.std.proofs.Common.{rules};

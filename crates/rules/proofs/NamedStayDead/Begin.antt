@@ -5,7 +5,7 @@ use Rattle.rules.specs.Book.Phase.{has_completed, has_terminated, unbegun, under
 use Rattle.rules.specs.Book.{AnyLevel, CanEndIn, CanRunWith, DependentsEnd, Innermost, InsideRendezvous, outside, Phase, phase, Points}
 use Rattle.rules.specs.Changes.{birth, new_task}
 use Rattle.rules.specs.Picture.{at, frames, Picture, rendezvous_level, status, Task}
-use Rattle.rules.specs.Rules.{Acts, ends}
+use Rattle.rules.specs.Rules.{Acts}
 use Rattle.rules.specs.declared.vocabulary.Action.{Action}
 use Rattle.rules.specs.declared.vocabulary.Action.TheVariants.{Accept, Begin, Call, EndRendezvous, Finish, LeaveBlock, OpenBlock}
 use Rattle.rules.specs.declared.vocabulary.Event.{Event}

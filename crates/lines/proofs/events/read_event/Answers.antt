@@ -1,9 +1,8 @@
-use Rattle.std.proofs.Common.{◌≡◌, List, length, Ok, sym, refl, ap, ◌∙◌, subst}
+use Rattle.std.proofs.Common.{◌≡◌, Ok, sym, ap, ◌∙◌, subst}
 use Rattle.std.proofs.lemmas.Result.{err_from_is_err_and}
 use Rattle.lines.specs.Lines.{spell, Small, numbers}
-use Rattle.lines.specs.Events.{letter, arity, kind, spell_event, ReadsEvent}
+use Rattle.lines.specs.Events.{letter, kind, spell_event, ReadsEvent}
 use Rattle.lines.specs.Events.{numbers as event_numbers}
-use Rattle.lines.proofs.Letters.{kind_from_letter}
 use Rattle.lines.proofs.EventsRead.{reads_every}
 use Rattle.lines.proofs.events.read_event.Goals as goal
 

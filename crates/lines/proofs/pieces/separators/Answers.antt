@@ -1,4 +1,4 @@
-use Rattle.std.proofs.Common.{◌≡◌, ◌+◌, ◌<◌, length, drop, ap, arith}
+use Rattle.std.proofs.Common.{length, ap, arith}
 use Rattle.std.proofs.lemmas.List.{drop_all}
 use Rattle.lines.specs.Pieces.{pieces}
 use Rattle.lines.proofs.Cuts.{count_at, count_past}

@@ -1,4 +1,4 @@
-use Rattle.std.proofs.Common.{◌≡◌, [], ◌∷◌, length, get_or, sym, refl, ap, ◌∙◌, inl, inr, arith}
+use Rattle.std.proofs.Common.{◌≡◌, [], ◌∷◌, get_or, sym, refl, ap, ◌∙◌, inl, inr, arith}
 use Rattle.lines.specs.Lines.{field}
 use Rattle.lines.proofs.Spelling.{one_letter}
 use Rattle.lines.proofs.reader.read_letter.Goals as goal

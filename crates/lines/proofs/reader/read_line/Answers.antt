@@ -1,8 +1,8 @@
-use Rattle.std.proofs.Common.{◌≡◌, ℕ, ◌+◌, ◌<◌, ◌≤◌, length, get_or, take, Err, sym, refl, ap, ◌∙◌, subst, inl, inr, arith}
+use Rattle.std.proofs.Common.{◌≡◌, ◌≤◌, length, take, Err, sym, refl, subst, inl, inr, arith}
 use Rattle.std.proofs.lemmas.List.{length-take-le}
 use Rattle.std.proofs.lemmas.Result.{err_from_is_err_and}
 use Rattle.refusals.specs.declared.Refusal.TheVariants.{NotANumber}
-use Rattle.lines.specs.Lines.{Reads, Spelled, fields}
+use Rattle.lines.specs.Lines.{Reads, Spelled}
 use Rattle.lines.proofs.Spelling.{no_number, reads_back, spelled_once, fields_from, line_from_fields, small_front}
 use Rattle.lines.proofs.reader.read_line.Goals as goal
 

@@ -1,4 +1,4 @@
-use Rattle.std.proofs.Common.{◌≡◌, sym, refl, ◌∙◌, arith}
+use Rattle.std.proofs.Common.{sym, refl, ◌∙◌}
 use Rattle.std.proofs.lemmas.List.{set_past}
 use Rattle.reports.proofs.layout.put.Goals as goal
 use Rattle.reports.proofs.layout.put.Goals.{then-at-buf, else-at-buf}

@@ -1,7 +1,5 @@
-use Rattle.std.proofs.Common.{◌≡◌, ℕ, ◌+◌, ◌≤◌, [], ◌∷◌, ◌++◌, length, sym, refl, ap, ◌∙◌, subst, arith}
+use Rattle.std.proofs.Common.{◌≡◌, ◌++◌, length, sym, refl, ap, ◌∙◌, arith}
 use Rattle.std.specs.List.{flat_map}
-use Rattle.std.proofs.lemmas.List.{flat_map_more, length_push}
-use Rattle.reports.specs.Layout.{Puts}
 use Rattle.reports.specs.Report.{row_line, rows_below, closing_line}
 use Rattle.reports.proofs.Laying.{then, puts_as}
 use Rattle.reports.proofs.Rows.{none, step_none, step_some}

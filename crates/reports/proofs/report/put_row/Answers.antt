@@ -1,4 +1,4 @@
-use Rattle.std.proofs.Common.{ap, ◌∙◌, arith}
+use Rattle.std.proofs.Common.{arith}
 use Rattle.reports.proofs.Laying.{then, puts_as}
 use Rattle.reports.proofs.report.put_row.Goals as goal
 

@@ -1,9 +1,9 @@
-use Rattle.std.proofs.Common.{◌≡◌, List, ◌++◌, string_bytes, sym, refl, ap, ◌∙◌, subst, append_assoc, arith}
+use Rattle.std.proofs.Common.{◌≡◌, ◌++◌, string_bytes, sym, ap, ◌∙◌, subst, append_assoc}
 use Rattle.std.specs.List.{flat_map}
 use Rattle.books.specs.Points.{has}
 use Rattle.books.specs.Shut.{size, LargestShut}
 use Rattle.sheets.specs.Limits.{parties}
-use Rattle.sheets.specs.Page.{Page, judged, party_line, closing_line, members}
+use Rattle.sheets.specs.Page.{judged, party_line, closing_line, members}
 use Rattle.sheets.specs.Sheets.{follow, NoRows}
 use Rattle.books.proofs.Sets.{size_within}
 use Rattle.sheets.proofs.page.judged_page.Goals as goal

@@ -1,8 +1,8 @@
-use Rattle.std.proofs.Common.{◌≡◌, [], ◌++◌, string_bytes, sym, refl, ap, ◌∙◌, arith}
+use Rattle.std.proofs.Common.{◌++◌, string_bytes, sym, ap, ◌∙◌}
 use Rattle.std.specs.List.{flat_map}
 use Rattle.std.proofs.lemmas.List.{append-nil}
 use Rattle.books.specs.Points.{has}
-use Rattle.sheets.specs.Page.{party_line, members}
+use Rattle.sheets.specs.Page.{party_line}
 use Rattle.sheets.proofs.Pages.{members_none, party_in, party_out}
 use Rattle.sheets.proofs.page.put_parties.Goals as goal
 use Rattle.sheets.proofs.page.put_parties.Goals.{then-contains+in_ok-left_out+in_ok-push_str, else-contains}

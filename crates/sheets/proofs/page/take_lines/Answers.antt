@@ -1,9 +1,9 @@
-use Rattle.std.proofs.Common.{◌≡◌, ℕ, ◌+◌, List, [], ◌∷◌, ◌++◌, length, string_bytes, sym, refl, ap, ◌∙◌, subst, append_assoc, add-zero, zero-add, arith}
+use Rattle.std.proofs.Common.{◌≡◌, ◌+◌, [], ◌++◌, string_bytes, sym, ap, ◌∙◌, subst, append_assoc, add-zero, zero-add, arith}
 use Rattle.std.proofs.lemmas.List.{append-nil}
 use Rattle.refusals.specs.Table.{number_of}
 use Rattle.lines.specs.Pieces.{lines_of}
 use Rattle.sheets.specs.Page.{Fed, none, refusal_line}
-use Rattle.sheets.specs.Sheets.{Meaning, follow}
+use Rattle.sheets.specs.Sheets.{follow}
 use Rattle.sheets.proofs.Pages.{one_taken, one_refused}
 use Rattle.sheets.proofs.page.take_lines.Goals as goal
 use Rattle.sheets.proofs.page.take_lines.Goals.{in-Ok, in-Err+in_ok-refused-in-Err+in_ok-push_str-in-Err}

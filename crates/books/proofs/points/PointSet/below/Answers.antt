@@ -1,5 +1,3 @@
-use Rattle.std.proofs.Common.{◌≡◌, ◌+◌, ◌/◌, ◌%◌, ap, ◌∙◌}
-use Rattle.books.specs.Points.{has}
 use Rattle.books.proofs.Words.{has_below}
 use Rattle.books.proofs.points.PointSet.below.Goals as goal
 

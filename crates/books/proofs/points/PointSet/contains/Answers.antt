@@ -1,7 +1,7 @@
-use Rattle.std.proofs.Common.{◌≡◌, ◌/◌, ◌^◌, eqb, sym, ap, ◌∙◌, arith}
+use Rattle.std.proofs.Common.{◌/◌, ◌^◌, eqb, sym, ap, ◌∙◌, arith}
 use Rattle.std.proofs.lemmas.Nat.{and_mask}
 use Rattle.std.proofs.lemmas.Bool.{le-ltb}
-use Rattle.books.specs.Points.{has, bit}
+use Rattle.books.specs.Points.{bit}
 use Rattle.books.proofs.Words.{has_even, has_odd, has_beyond}
 use Rattle.books.proofs.points.PointSet.contains.Goals as goal
 use Rattle.books.proofs.points.PointSet.contains.Goals.{then-p-eq0, else-p-eq0}

@@ -1,5 +1,4 @@
 use Rattle.std.proofs.Common.{ℕ, ◌+◌, ◌*◌, sym, subst}
-use Rattle.books.specs.declared.points.PointSet.{PointSet}
 use Rattle.books.specs.Taking.{PointTaken}
 use Rattle.books.proofs.Firsts.{even_taken, none_in, odd_taken}
 use Rattle.books.proofs.points.PointSet.take.Goals as goal

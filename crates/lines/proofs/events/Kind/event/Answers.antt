@@ -1,4 +1,4 @@
-use Rattle.std.proofs.Common.{◌≡◌, sym, ap, ◌∙◌}
+use Rattle.std.proofs.Common.{sym, ap, ◌∙◌}
 use Rattle.lines.specs.Events.{arity}
 use Rattle.lines.proofs.Letters.{one_number, two_numbers, three_numbers}
 use Rattle.lines.proofs.events.Kind.event.Goals as goal

@@ -1,4 +1,4 @@
-use Rattle.std.proofs.Common.{◌≡◌, true, sym, ap, ◌∙◌}
+use Rattle.std.proofs.Common.{◌≡◌, sym, ap, ◌∙◌}
 use Rattle.task_book.specs.Book.{picture_of}
 use Rattle.task_book.specs.NameSet.{named}
 use Rattle.monitor.proofs.Exactly.{exactly}

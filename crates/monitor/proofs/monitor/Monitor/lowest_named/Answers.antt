@@ -1,4 +1,3 @@
-use Rattle.std.proofs.Common.{◌≡◌}
 use Rattle.task_book.specs.Book.{picture_of}
 use Rattle.monitor.proofs.Exactly.{exactly}
 use Rattle.monitor.proofs.QuestionsAnswered.{lowest}

@@ -1,4 +1,4 @@
-use Rattle.std.proofs.Common.{◌≡◌, sym, ap, ◌∙◌, subst}
+use Rattle.std.proofs.Common.{sym, ap, ◌∙◌, subst}
 use Rattle.books.proofs.Binary.{zero_bit}
 use Rattle.tasks.specs.View.{view}
 use Rattle.tasks.specs.declared.picture.Picture.{Picture as CodePicture}

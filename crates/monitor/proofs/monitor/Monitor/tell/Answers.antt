@@ -1,8 +1,4 @@
-use Rattle.std.proofs.Common.{◌≡◌, refl, ap, subst, arith}
-use Rattle.books.specs.Points.{bit}
-use Rattle.rules.specs.Events.{◌does◌}
-use Rattle.monitor.specs.Of.{state_of}
-use Rattle.monitor.specs.State.{Accepts}
+use Rattle.std.proofs.Common.{refl, arith}
 use Rattle.monitor.proofs.Children.{child_begins}
 use Rattle.monitor.proofs.monitor.Monitor.tell.Goals as goal
 

@@ -1,4 +1,4 @@
-use Rattle.std.proofs.Common.{◌≡◌, length, refl, arith, rules}
+use Rattle.std.proofs.Common.{◌≡◌, length, arith, rules}
 use Rattle.sheets.specs.Meaning.{replaced}
 use Rattle.sheets.proofs.sheet.WaitSheet.set_row.Goals as goal
 

@@ -1,7 +1,6 @@
-use Rattle.std.proofs.Common.{◌≡◌, length, sym, ap, rules}
+use Rattle.std.proofs.Common.{sym, ap, rules}
 use Rattle.std.proofs.lemmas.List.{get_or_past}
-use Rattle.rules.specs.Picture.{rendezvous_level}
-use Rattle.tasks.specs.View.{blank, frames_of}
+use Rattle.tasks.specs.View.{blank}
 use Rattle.tasks.proofs.picture.Picture.master.Goals as goal
 
 pub returns-in-None : goal.returns-in-None

@@ -1,6 +1,5 @@
-use Rattle.std.proofs.Common.{◌≡◌, length, sym, ap, rules}
+use Rattle.std.proofs.Common.{length, sym, ap, rules}
 use Rattle.std.proofs.lemmas.List.{get_or_past}
-use Rattle.rules.specs.Picture.{rendezvous_level}
 use Rattle.tasks.specs.View.{blank, frames_of}
 use Rattle.tasks.proofs.picture.Picture.open_frames.Goals as goal
 

@@ -1,4 +1,4 @@
-use Rattle.std.proofs.Common.{◌≡◌, length, sym, ap, rules}
+use Rattle.std.proofs.Common.{sym, ap, rules}
 use Rattle.std.proofs.lemmas.List.{get_or_past}
 use Rattle.rules.specs.Picture.{rendezvous_level}
 use Rattle.tasks.specs.View.{blank, frames_of}
