@@ -1,6 +1,6 @@
 -- Lines and their fields: a letter and numbers are told by the line that spells them, and every such line is read.
 use Rattle.std.proofs.Common.{◌≡◌, ℕ, zero, suc, ◌+◌, ◌-◌, ◌<◌, ◌≤◌, Bool, true, false, cond, eqb, List, [], ◌∷◌, ◌++◌, map, length, get_or, take, drop, Ok, Err, decimal, Result, sym, refl, ap, ◌∙◌, subst, add-one, arith, eqb-true}
-use Rattle.std.specs.List.{join_with_byte, AllByRecursion as All}
+use Rattle.std.specs.List.{join_with_byte, AllByRecursion}
 use Rattle.std.proofs.lemmas.List.{length-map, get_or-map, length-take, length-take-le, get_or-take, append-nil, ext_get_or}
 use Rattle.std.proofs.ByRecursion.{All-get_or, All-from_get_or}
 use Rattle.std.proofs.lemmas.Str.Parse.{not_in_digits}
@@ -73,7 +73,7 @@ letter_lacks l ne (suc i) lt e = absurd (omega arith)
 pub fields_spell : (l : ℕ) (ns : List ℕ) → (l ≡ 44 → ⊥) → Small ns → fields (spell l ns) ≡ (l ∷ []) ∷ map decimal ns
 fields_spell l ns ne small = pieces_numbers (l ∷ []) ns (letter_lacks l ne) small
 
-same_numbers : (ms ns : List ℕ) → All (λ n. n ≤ 999) ms → All (λ n. n ≤ 999) ns → map decimal ms ≡ map decimal ns → ms ≡ ns
+same_numbers : (ms ns : List ℕ) → AllByRecursion (λ n. n ≤ 999) ms → AllByRecursion (λ n. n ≤ 999) ns → map decimal ms ≡ map decimal ns → ms ≡ ns
 same_numbers [] [] p q e = refl
 same_numbers [] (n ∷ ns) p q e = absurd (omega (arith, ap length e))
 same_numbers (m ∷ ms) [] p q e = absurd (omega (arith, ap length e))

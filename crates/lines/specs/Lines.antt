@@ -1,7 +1,7 @@
 -- Lines: how a letter and numbers are written, which lines are read as what, and how every other line is refused.
 -- A reader knows some letters, known l, and of each how many numbers may follow it, counted l n.
 use Rattle.std.specs.Prelude.{◌≡◌, ℕ, ◌+◌, ◌<◌, ◌≤◌, List, [], ◌∷◌, length, take, decimal, Result, slice_index, slice_index_or}
-use Rattle.std.specs.List.{flat_map, AllByRecursion as All}
+use Rattle.std.specs.List.{flat_map, AllByRecursion}
 use Rattle.std.specs.Result as results
 use Rattle.refusals.specs.declared.Refusal.{Refusal}
 use Rattle.refusals.specs.declared.Refusal.TheVariants.{LineLength, UnknownLetter, FieldCount, NotANumber}
@@ -16,7 +16,7 @@ spell l ns = l ∷ flat_map (λ n. 44 ∷ decimal n) ns
 
 -- none of the numbers is over 999
 abbrev pub Small : List ℕ → Type 0
-Small ns = All (λ n. n ≤ 999) ns
+Small ns = AllByRecursion (λ n. n ≤ 999) ns
 
 -- what stands between the commas of a line
 abbrev pub fields : List ℕ → List (List ℕ)

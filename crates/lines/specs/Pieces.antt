@@ -1,7 +1,7 @@
 -- A list of bytes, cut at a byte: the fields of a line, and the lines of an input.
 use Rattle.std.specs.Prelude.{◌≡◌, ℕ, ◌<◌, cond, ◌⊎◌, List, [], ◌∷◌, ◌++◌, length, Option, MatchOption, ◌==◌, ◌≢◌, slice_index}
 use Rattle.std.specs.Borrow.{Bor}
-use Rattle.std.specs.List.{flat_map, AllByRecursion as All}
+use Rattle.std.specs.List.{flat_map, AllByRecursion}
 
 -- the byte b in front of the first piece
 abbrev pub onto : ℕ → List (List ℕ) → List (List ℕ)
@@ -33,7 +33,7 @@ ended l = l ++ (10 ∷ [])
 -- ls are the lines of an input: with their ends they are the input, or the input with its last end, and no line has byte 10
 pub record Lines (input : List ℕ) (ls : List (List ℕ)) : Type 0 where
   pub whole : (input ≡ flat_map ended ls) ⊎ (input ++ (10 ∷ []) ≡ flat_map ended ls)
-  pub plain : All (Lacks 10) ls
+  pub plain : AllByRecursion (Lacks 10) ls
 
 -- r is the first line of an input and what follows it, which is less; none where the input is empty
 abbrev pub NextLine : List ℕ → Option (Bor (List ℕ) × Bor (List ℕ)) → Type 0
