@@ -1,7 +1,7 @@
 use Rattle.std.proofs.Common.{◌≡◌, ◌≤◌, [], length, take, drop, Err, sym, ap, ◌∙◌, subst, arith}
 use Rattle.std.proofs.lemmas.List.{length-drop, take_all}
 use Rattle.lines.specs.Pieces.{lines_of}
-use Rattle.tape.specs.Tapes.{Accepts}
+use Rattle.tape.specs.Tapes.{Accepts, Stopped}
 use Rattle.tape.proofs.Turns.{within, here, one_more, left, accepts_more}
 use Rattle.tape.proofs.tape.play.Goals as goal
 
@@ -12,14 +12,15 @@ returns-in-Err g c =
     let next = c.loop-line.invariant.1 ∙ c.in-Some.ensures.0 in
     let steps = g.T.Teller.steps in
     let told = c.in-Err.ensures in
-    record {
+    let stopped : Stopped steps c.args.teller.now c.args.tape.now n c.tell_line.new.self = record {
       short = c.if-tape-gt-TAPE_ROOM.false;
       within = within all n _ _ next;
       accepted = subst (Accepts steps c.args.teller.now (take n all)) (sym told.1) c.loop-line.invariant.0;
       cause = c.in-Err.field-0;
       refused = subst (λ l. steps c.tell_line.new.self l (Err c.in-Err.field-0)) (sym (here all n _ _ next []))
           (subst (λ t. steps t c.in-Some.line.now (Err c.in-Err.field-0)) (sym told.1) told.0);
-    }
+    } in
+    stopped
 
 pub loop-line-preserved : goal.loop-line-preserved
 loop-line-preserved g c =
