@@ -1,6 +1,5 @@
 pub mod Binary
 pub mod Firsts
-pub mod Lowest
 pub mod Ones
 pub mod Sets
 pub mod Words

@@ -1,15 +1,8 @@
 -- Sets of points as tests: how large they are, and how judging comes to the largest shut set.
-use Rattle.std.proofs.Common.{◌≡◌, ℕ, zero, suc, ◌+◌, ◌<◌, ◌≤◌, Bool, true, false, cond, not, ◌&&◌, ◌||◌, eqb, ltb, ◌⊎◌, sym, refl, ap, ◌∙◌, inl, inr, ⊎_elim, arith}
-use Rattle.std.proofs.lemmas.Bool.{both_ways, not-true, not_from_false, ltb-true, lt-ltb, eqb-true, eq-eqb, and_parts, and_from, or_cases, or_left, or_right, cases_Bool, cases_eq, ne_eqb}
-use Rattle.std.proofs.lemmas.Bool.Decides.{nat_tests}
-use Rattle.books.specs.Passes.{Reached, Settled}
-use Rattle.books.specs.Shut.{Inside, Grows, outside, Shut, LargestShut, size}
-
-pub or_comm : (a b : Bool) → (a || b) ≡ (b || a)
-or_comm true true = refl
-or_comm true false = refl
-or_comm false true = refl
-or_comm false false = refl
+use Rattle.std.proofs.Common.{◌≡◌, ℕ, zero, suc, ◌+◌, ◌<◌, ◌≤◌, Bool, true, false, cond, not, ◌&&◌, ◌||◌, eqb, ltb, sym, refl, ap, ◌∙◌, inl, inr, ⊎_elim, arith}
+use Rattle.std.proofs.lemmas.Bool.{both_ways, not_from_false, lt-ltb, eqb-true, eq-eqb, and_parts, and_from, or_cases, or_left, or_right, cases_Bool, cases_eq, ne_eqb}
+use Rattle.books.specs.Passes.{Reached}
+use Rattle.books.specs.Shut.{Inside, Grows, outside, Shut, size}
 
 flag_le : (a b : Bool) → (a ≡ true → b ≡ true) → cond a 1 0 ≤ cond b 1 0
 flag_le true true h = omega arith
@@ -92,10 +85,6 @@ size_within n (suc k) S h =
     let z : cond {A = ℕ} (S (k + n)) 1 0 ≡ 0 = ap (λ b. cond b 1 0) out in
     ap (λ m. size m S) e ∙ omega (arith, z, size_within n k S h)
 
--- the points of a book of at most 128 points are all below 128
-pub below_few : (n q : ℕ) → n ≤ 128 → (ltb q n && ltb q 128) ≡ ltb q n
-below_few n q few = grind (arith, nat_tests)
-
 -- the set R with p as well
 abbrev pub Adds : (ℕ → Bool) → ℕ → (ℕ → Bool) → Type 0
 Adds R p R' = (q : ℕ) → R' q ≡ (eqb q p || R q)
@@ -135,27 +124,10 @@ takes_gone W W' p a = a p ∙ ap (λ b. W p && not b) (eq-eqb p p refl) ∙ and_
     and_false true = refl
     and_false false = refl
 
--- whoever is out of W' was out of W, or is p
-takes_cases : (W W' : ℕ → Bool) (p : ℕ) → Takes W p W' → (q : ℕ) → W' q ≡ false → (q ≡ p) ⊎ (W q ≡ false)
-takes_cases W W' p a q e = elim (cases_eq q p) [
-  | inl i ↦ inl i
-  | inr n ↦ inr (go (W q) (sym e ∙ a q ∙ ap (λ b. W q && not b) (ne_eqb q p n)))
-]
-  where
-    go : (b : Bool) → false ≡ (b && true) → b ≡ false
-    go true h = sym h
-    go false h = refl
-
 pub takes_fewer : (n : ℕ) (W W' : ℕ → Bool) (p : ℕ) → p < n → W p ≡ true → Takes W p W' → size n W' < size n W
 takes_fewer n W W' p h w a = size_more n W' W (takes_inside W W' p a) p h (takes_gone W W' p a) w
 
 module _ (n : ℕ) (f : ℕ → (ℕ → Bool) → Bool) (grows : Grows f) where
-  pub reached_none : (R : ℕ → Bool) → ((q : ℕ) → R q ≡ false) → Reached n f R
-  reached_none R none = record {
-    points = λ q r. absurd (both_ways (R q) (none q) r);
-    apart = λ D s q r. absurd (both_ways (R q) (none q) r);
-  }
-
   -- what lies apart from each shut set lies in the points outside it
   reached_outside : (R D : ℕ → Bool) → Reached n f R → Shut n f D → Inside R (outside n D)
   reached_outside R D k s q r =
@@ -179,39 +151,6 @@ module _ (n : ℕ) (f : ℕ → (ℕ → Bool) → Bool) (grows : Grows f) where
         (or_cases (eqb q p) (R q) (sym (a q) ∙ r));
   }
 
-  pub judged : (R L : ℕ → Bool) → Reached n f R → Settled n f R → ((q : ℕ) → L q ≡ outside n R q) → LargestShut n f L
-  judged R L k settled left =
-      let parts : (q : ℕ) → L q ≡ true → (ltb q n ≡ true) × (not (R q) ≡ true) = λ q l. and_parts (ltb q n) (not (R q)) (sym (left q) ∙ l) in
-      let back : Inside (outside n L) R = λ q o.
-      let both = and_parts (ltb q n) (not (L q)) o in
-      ⊎_elim
-      (λ (t : R q ≡ true). t)
-      (λ (t : R q ≡ false). absurd (both_ways (L q) (not-true (L q) both.1) (left q ∙ and_from (ltb q n) (not (R q)) both.0 (not_from_false (R q) t))))
-      (cases_Bool (R q)) in
-      record {
-        shut = record {
-          points = λ q l. ltb-true q n (parts q l).0;
-          stuck = λ q l. ⊎_elim
-              (λ (t : f q (outside n L) ≡ true). absurd (both_ways (f q R) (settled q (ltb-true q n (parts q l).0) (not-true (R q) (parts q l).1)) (grows q (outside n L) R back t)))
-              (λ (t : f q (outside n L) ≡ false). t)
-              (cases_Bool (f q (outside n L)));
-        };
-        largest = λ D s q d. left q ∙ and_from (ltb q n) (not (R q)) (lt-ltb q n (s.points q d)) (not_from_false (R q) (⊎_elim
-            (λ (t : R q ≡ true). absurd (both_ways (D q) (k.apart D s q t) d))
-            (λ (t : R q ≡ false). t)
-            (cases_Bool (R q))));
-      }
-
-  pub passing_none : (R W : ℕ → Bool) → Reached n f R → ((q : ℕ) → W q ≡ outside n R q) → Passing n f R R false W
-  passing_none R W k w = record {
-    reached = k;
-    kept = omega arith;
-    more = λ e. absurd (both_ways false refl e);
-    points = λ q e. ltb-true q n (and_parts (ltb q n) (not (R q)) (sym (w q) ∙ e)).0;
-    fresh = λ q e. not-true (R q) (and_parts (ltb q n) (not (R q)) (sym (w q) ∙ e)).1;
-    done = λ e q h out r. absurd (both_ways (W q) out (w q ∙ and_from (ltb q n) (not (R q)) (lt-ltb q n h) (not_from_false (R q) r)));
-  }
-
   module _ (R₀ R W W' : ℕ → Bool) (grew : Bool) (p : ℕ) (k : Passing n f R₀ R grew W) (member : W p ≡ true) (takes : Takes W p W') where
     pub passing_added : (R' : ℕ → Bool) → f p R ≡ true → Adds R p R' → Passing n f R₀ R' true W'
     passing_added R' follows a =
@@ -227,16 +166,3 @@ module _ (n : ℕ) (f : ℕ → (ℕ → Bool) → Bool) (grows : Grows f) where
           ];
           done = λ e. absurd (both_ways true e refl);
         }
-
-    pub passing_kept : f p R ≡ false → Passing n f R₀ R grew W'
-    passing_kept here = record {
-      reached = k.reached;
-      kept = k.kept;
-      more = k.more;
-      points = λ q e. k.points q (takes_inside W W' p takes q e);
-      fresh = λ q e. k.fresh q (takes_inside W W' p takes q e);
-      done = λ e q h out r. elim (takes_cases W W' p takes q out) [
-        | inl i ↦ ap (λ x. f x R) i ∙ here
-        | inr w ↦ k.done e q h w r
-      ];
-    }

@@ -9,6 +9,7 @@ ComesBefore q p = (q % 2 < p % 2) ⊎ ((q % 2 ≡ p % 2) × (q < p))
 
 -- p is the first point of a set, and after it is taken out another set is left
 pub record PointTaken (s : PointSet) (p : ℕ) (left : PointSet) : Type 0 where
+  pub small : p < 128
   pub member : has s p ≡ true
   pub first : (q : ℕ) → ComesBefore q p → has s q ≡ false
   pub others : (q : ℕ) → has left q ≡ (has s q && not (q == p))

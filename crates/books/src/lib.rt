@@ -7,6 +7,6 @@ mod points;
 mod watch;
 
 pub use book::WaitBook;
-pub use members::take_lowest;
-pub use points::PointSet;
+pub use members::{MemberIter, Members};
+pub use points::{PointIter, PointSet};
 pub use watch::Watch;

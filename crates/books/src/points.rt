@@ -1,28 +1,18 @@
 // A set of points, which are numbered from 0 to 127.
-ghost use Rattle.std.specs.Prelude.{◌≡◌, ℕ, ◌+◌, ◌-◌, ◌*◌, ◌^◌, ◌<◌, min, Bool, true, false, not, ◌&&◌, ◌||◌, ◌≢◌, Decides, ◌==◌, nat_lt};
-ghost use Rattle.books.specs.Points.{bit, has};
+ghost use Rattle.std.specs.Prelude.{◌≡◌, ℕ, ◌+◌, ◌*◌, ◌<◌, Bool, true, false, not, ◌&&◌, ◌||◌, ◌≢◌, Decides, ◌==◌, nat_lt};
+ghost use Rattle.std.specs.Iterator.{at_most};
+ghost use Rattle.books.specs.Points.{has, member};
 ghost use Rattle.books.specs.Shut.{size};
 ghost use Rattle.books.specs.Taking.{TakesPoint};
 
-use crate::take_lowest;
+use crate::Members;
 
-// Even and odd points are kept apart, point 2t and point 2t + 1 each at bit t, so that a question about all even or all
-// odd points is one operation on a word.
+// Even and odd points are kept apart, point 2t and point 2t + 1 each as t, so that a question about all even or all odd
+// points is one operation on a word.
 #[derive(Clone, Copy, Debug, PartialEq, Eq)]
 pub struct PointSet {
-    even: u64,
-    odd: u64,
-}
-
-// The word with the lowest `count` bits, of its 64.
-fn low_bits(count: usize) -> u64
-    ensures { result ≡ 2 ^ min count 64 - 1 }
-{
-    if count >= 64 {
-        u64::MAX
-    } else {
-        (1u64 << count) - 1
-    }
+    even: Members,
+    odd: Members,
 }
 
 impl PointSet {
@@ -30,7 +20,10 @@ impl PointSet {
     pub fn empty() -> Self
         ensures { (q : ℕ) → has result q ≡ false }
     {
-        PointSet { even: 0, odd: 0 }
+        PointSet {
+            even: Members::empty(),
+            odd: Members::empty(),
+        }
     }
 
     // The set of all points below `n`.
@@ -38,8 +31,8 @@ impl PointSet {
         ensures { (q : ℕ) → has result q ≡ (nat_lt q n && nat_lt q 128) }
     {
         PointSet {
-            even: low_bits(n / 2 + n % 2),
-            odd: low_bits(n / 2),
+            even: Members::below(n / 2 + n % 2),
+            odd: Members::below(n / 2),
         }
     }
 
@@ -47,9 +40,8 @@ impl PointSet {
     pub fn contains(&self, p: usize) -> bool
         ensures { result ≡ has self.now p }
     {
-        let PointSet { even, odd } = *self;
-        let word = if p % 2 == 0 { even } else { odd };
-        p < 128 && (word >> (p / 2)) & 1 == 1
+        let half = if p % 2 == 0 { self.even } else { self.odd };
+        half.contains(p / 2)
     }
 
     // Puts `p` in, and answers whether it is new there; a number above 127 is not put in.
@@ -57,29 +49,21 @@ impl PointSet {
         ensures new { result ≡ (nat_lt p 128 && not (has self.old p)) }
         ensures after { (q : ℕ) → has self.new q ≡ ((nat_lt p 128 && q == p) || has self.old q) }
     {
-        if p >= 128 || self.contains(p) {
-            return false;
-        }
-        let bit = 1u64 << (p / 2);
         if p % 2 == 0 {
-            self.even |= bit;
+            self.even.insert(p / 2)
         } else {
-            self.odd |= bit;
+            self.odd.insert(p / 2)
         }
-        true
     }
 
     // Takes a point out of the set, and answers it: the lowest even one, or if there is none the lowest odd one.
     pub fn take(&mut self) -> Option<usize>
         ensures { TakesPoint self.old result self.new }
     {
-        if let Some(t) = take_lowest(&mut self.even) {
+        if let Some(t) = self.even.take_lowest() {
             return Some(2 * usize::from(t));
         }
-        match take_lowest(&mut self.odd) {
-            Some(t) => Some(2 * usize::from(t) + 1),
-            None => None,
-        }
+        self.odd.take_lowest().map(|t| 2 * usize::from(t) + 1)
     }
 
     // The points of this set that are not in the other.
@@ -87,8 +71,8 @@ impl PointSet {
         ensures { (q : ℕ) → has result q ≡ (has self.now q && not (has other.now q)) }
     {
         PointSet {
-            even: self.even & !other.even,
-            odd: self.odd & !other.odd,
+            even: self.even.difference(other.even),
+            odd: self.odd.difference(other.odd),
         }
     }
 
@@ -97,8 +81,8 @@ impl PointSet {
         ensures { (q : ℕ) → has result q ≡ (has self.now q && has other.now q) }
     {
         PointSet {
-            even: self.even & other.even,
-            odd: self.odd & other.odd,
+            even: self.even.intersection(other.even),
+            odd: self.odd.intersection(other.odd),
         }
     }
 
@@ -106,28 +90,60 @@ impl PointSet {
     pub fn len(&self) -> usize
         ensures { result ≡ size 128 (has self.now) }
     {
-        self.even.count_ones() as usize + self.odd.count_ones() as usize
+        self.even.len() + self.odd.len()
     }
 
-    // The pairs of points 2t and 2t + 1 that are both in the set, as a word: bit t is the pair of t.
-    pub fn pairs(&self) -> u64
-        ensures { (t : ℕ) → bit result t ≡ (has self.now (2 * t) && has self.now (2 * t + 1)) }
+    // The numbers t of the pairs of points 2t and 2t + 1 that are both in the set.
+    pub fn pairs(&self) -> Members
+        ensures { (t : ℕ) → member result t ≡ (has self.now (2 * t) && has self.now (2 * t + 1)) }
     {
-        self.even & self.odd
+        self.even.intersection(self.odd)
     }
 
     // Whether some even point other than 2t is in the set.
     pub fn any_even_besides(&self, t: usize) -> bool
         ensures { Decides result ((u : ℕ) × (u < 64) × (u ≢ t) × (has self.now (2 * u) ≡ true)) }
     {
-        let own = if t < 64 { 1u64 << t } else { 0 };
-        self.even & !own != 0
+        let mut others = self.even;
+        others.remove(t);
+        !others.is_empty()
     }
 
-    // Whether point 2t + 1 is in the set for every bit t of `tasks`.
-    pub fn has_all_odd(&self, tasks: u64) -> bool
-        ensures { Decides result ((t : ℕ) → bit tasks t ≡ true → has self.now (2 * t + 1) ≡ true) }
+    // Whether point 2t + 1 is in the set for every t in `tasks`.
+    pub fn has_all_odd(&self, tasks: Members) -> bool
+        ensures { Decides result ((t : ℕ) → member tasks t ≡ true → has self.now (2 * t + 1) ≡ true) }
     {
-        tasks & !self.odd == 0
+        tasks.difference(self.odd).is_empty()
+    }
+}
+
+// The points of a set that are still to come, in the order in which `take` takes them. One iterator for this and for `Members`
+// would need a trait with a law of its own, longer than both.
+#[derive(Drop)]
+pub struct PointIter {
+    left: PointSet,
+}
+
+impl Iterator for PointIter {
+    type Item = usize;
+
+    ghost next_gives = { λ s r t. TakesPoint s.left r t.left };
+
+    ghost remaining = { λ s. at_most (size 128 (has s.left)) };
+
+    fn next(&mut self) -> Option<usize> {
+        self.left.take()
+    }
+}
+
+impl IntoIterator for PointSet {
+    type Item = usize;
+
+    type IntoIter = PointIter;
+
+    ghost into_iter_gives = { λ set it. it.left ≡ set };
+
+    fn into_iter(self) -> PointIter {
+        PointIter { left: self }
     }
 }

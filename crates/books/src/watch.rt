@@ -22,21 +22,20 @@ fn is_next<B: WaitBook>(book: &B, p: usize, reached: &PointSet) -> bool
 
 // The points of the book that are not reached yet.
 fn unreached<B: WaitBook>(reached: &PointSet) -> PointSet
-    ensures { (q : ℕ) → has result q ≡ outside B.points (has reached.now) q }
+    ensures { (q : ℕ) → has result q ≡ outside B.POINTS (has reached.now) q }
 {
-    PointSet::below(B::count()).difference(reached)
+    PointSet::below(B::POINTS).difference(reached)
 }
 
 // Asks once about each point that is not reached yet, and adds those that follow. Answers whether it added one.
 fn pass<B: WaitBook>(book: &B, reached: &mut PointSet) -> bool
-    requires { Reached B.points (B.meaning book.now) (has reached.old) }
-    ensures sound { Reached B.points (B.meaning book.now) (has reached.new) }
-    ensures more { result ≡ true → size B.points (has reached.old) < size B.points (has reached.new) }
-    ensures done { result ≡ false → Settled B.points (B.meaning book.now) (has reached.new) }
+    requires { Reached B.POINTS (B.meaning book.now) (has reached.old) }
+    ensures sound { Reached B.POINTS (B.meaning book.now) (has reached.new) }
+    ensures more { result ≡ true → size B.POINTS (has reached.old) < size B.POINTS (has reached.new) }
+    ensures done { result ≡ false → Settled B.POINTS (B.meaning book.now) (has reached.new) }
 {
     let mut grew = false;
-    let mut rest = unreached::<B>(reached);
-    while let Some(p) = rest.take() {
+    for p in unreached::<B>(reached) {
         if is_next(book, p, reached) {
             reached.insert(p);
             grew = true;
@@ -47,10 +46,11 @@ fn pass<B: WaitBook>(book: &B, reached: &mut PointSet) -> bool
 
 // The largest shut set of the book, and how many passes over its points it took to find it.
 fn largest_shut<B: WaitBook>(book: &B) -> (PointSet, usize)
-    ensures judged { LargestShut B.points (B.meaning book.now) (has result.0) }
-    ensures passes { result.1 ≤ B.points + 1 }
+    ensures judged { LargestShut B.POINTS (B.meaning book.now) (has result.0) }
+    ensures passes { result.1 ≤ B.POINTS + 1 }
 {
     let mut reached = PointSet::empty();
+    // Counted by hand: how many passes there will be is not known before.
     let mut passes = 1;
     while pass(book, &mut reached) {
         passes += 1;
@@ -73,8 +73,8 @@ impl<B: WaitBook> Watch<B> {
     // points that took, each of which asks the book at most once about each point.
     pub fn judge(&mut self) -> usize
         ensures same { self.new.book ≡ self.old.book }
-        ensures judged { LargestShut B.points (B.meaning self.old.book) (has self.new.out) }
-        ensures passes { result ≤ B.points + 1 }
+        ensures judged { LargestShut B.POINTS (B.meaning self.old.book) (has self.new.out) }
+        ensures passes { result ≤ B.POINTS + 1 }
     {
         let (out, passes) = largest_shut(&self.book);
         self.out = out;
@@ -85,7 +85,6 @@ impl<B: WaitBook> Watch<B> {
     pub fn left_out(&self) -> PointSet
         ensures { result ≡ self.now.out }
     {
-        let out = self.out;
-        out
+        self.out
     }
 }

@@ -11,8 +11,7 @@ fn beginning(heap: Global) -> Result<String, AllocError> {
     let mut tape = String::new(heap);
     for child in 1..64usize {
         let entries = if child % 3 == 1 { 2 } else { 0 };
-        let line = format!(in heap; "N,0,{child},{entries}\n")?;
-        tape.push_str(line.as_str())?;
+        write!(tape, "N,0,{child},{entries}\n")?;
     }
     Ok(tape)
 }
@@ -30,17 +29,12 @@ fn round(heap: Global, server: usize) -> Result<String, AllocError> {
 fn main(rt: HostRuntime) -> io::Result<()> {
     let heap = rt.alloc();
     let (mut monitor, _ticket) = Monitor::new();
-    let mut told = 0usize;
     let tape = beginning(heap)?;
-    if let Ok(lines) = monitor.play(tape.as_bytes()) {
-        told = told.saturating_add(lines);
-    }
+    let mut told = monitor.play(tape.as_bytes()).unwrap_or(0);
     for turn in 0..10_000usize {
         let server = 1 + 3 * (turn % 20);
         let tape = round(heap, server)?;
-        if let Ok(lines) = monitor.play(tape.as_bytes()) {
-            told = told.saturating_add(lines);
-        }
+        told = told.saturating_add(monitor.play(tape.as_bytes()).unwrap_or(0));
     }
     let named = monitor.named_count();
     println!(rt; "{told} events told, {named} tasks named")

@@ -1,5 +1,5 @@
 -- The table of event letters: a letter tells its kind, and kind and numbers tell the event.
-use Rattle.std.proofs.Common.{◌≡◌, ℕ, ◌≤◌, cond, eqb, List, [], ◌∷◌, length, get_or, sym, refl, ap, ◌∙◌, arith}
+use Rattle.std.proofs.Common.{◌≡◌, ℕ, ◌≤◌, cond, eqb, List, ◌∷◌, length, get_or, sym, refl, ap, ◌∙◌, arith}
 use Rattle.rules.specs.declared.vocabulary.Action.{Action}
 use Rattle.rules.specs.declared.vocabulary.Action.TheVariants.{Begin, OpenBlock, LeaveBlock, Call, Accept, EndRendezvous, Finish}
 use Rattle.rules.specs.declared.vocabulary.Event.{Event}
@@ -82,17 +82,3 @@ arity_most call = omega arith
 arity_most accept = omega arith
 arity_most end_rendezvous = omega arith
 arity_most finish = omega arith
-
--- lists of one, two and three numbers
-pub one_number : (xs : List ℕ) → length xs ≡ 1 → get_or xs 0 0 ∷ [] ≡ xs
-one_number [] h = absurd (omega arith)
-one_number (x ∷ []) h = refl
-one_number (x ∷ y ∷ xs) h = absurd (omega arith)
-
-pub two_numbers : (xs : List ℕ) → length xs ≡ 2 → get_or xs 0 0 ∷ get_or xs 1 0 ∷ [] ≡ xs
-two_numbers [] h = absurd (omega arith)
-two_numbers (x ∷ xs) h = ap (λ l. x ∷ l) (one_number xs (omega arith))
-
-pub three_numbers : (xs : List ℕ) → length xs ≡ 3 → get_or xs 0 0 ∷ get_or xs 1 0 ∷ get_or xs 2 0 ∷ [] ≡ xs
-three_numbers [] h = absurd (omega arith)
-three_numbers (x ∷ xs) h = ap (λ l. x ∷ l) (two_numbers xs (omega arith))

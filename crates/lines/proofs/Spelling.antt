@@ -1,54 +1,20 @@
 -- Lines and their fields: a letter and numbers are told by the line that spells them, and every such line is read.
-use Rattle.std.proofs.Common.{◌≡◌, ℕ, zero, suc, ◌+◌, ◌-◌, ◌<◌, ◌≤◌, Bool, true, false, cond, eqb, List, [], ◌∷◌, ◌++◌, map, length, get_or, take, drop, Ok, Err, decimal, Result, sym, refl, ap, ◌∙◌, subst, add-one, arith, eqb-true}
-use Rattle.std.specs.List.{join_with_byte, AllByRecursion}
+use Rattle.std.proofs.Common.{◌≡◌, ℕ, zero, suc, ◌+◌, ◌-◌, ◌<◌, ◌≤◌, false, eqb, List, [], ◌∷◌, ◌++◌, map, length, get_or, take, drop, Ok, Err, decimal, Result, sym, refl, ap, ◌∙◌, subst, add-one, arith, ne_eqb}
+use Rattle.std.specs.List.{join_with_byte, AllByRecursion, All}
 use Rattle.std.proofs.lemmas.List.{length-map, get_or-map, length-take, length-take-le, get_or-take, append-nil, ext_get_or}
-use Rattle.std.proofs.ByRecursion.{All-get_or, All-from_get_or}
+use Rattle.std.proofs.ByRecursion as recursion
+use Rattle.std.proofs.lemmas.List.Elements.{All-from_get_or}
+use Rattle.std.proofs.lemmas.List.Splits.{slice_split_none, slice_split_at, join_with_byte-slice_split}
 use Rattle.std.proofs.lemmas.Str.Parse.{not_in_digits}
 use Rattle.std.proofs.lemmas.Fmt.{digits_decimal, decimal_injective}
 use Rattle.refusals.specs.declared.Refusal.{Refusal}
 use Rattle.refusals.specs.Checks.{FirstRefusal}
 use Rattle.refusals.proofs.Checks.{none_refuses}
 use Rattle.lines.specs.declared.fields.Fields.{Fields}
-use Rattle.lines.specs.Pieces.{onto, pieces, Lacks}
+use Rattle.lines.specs.Pieces.{pieces}
 use Rattle.lines.specs.Numbers.{Numeral}
 use Rattle.lines.specs.Lines.{spell, Small, fields, field, Numbered, FirstBad, numbers, line_checks, Spelled, Reads, ReadsBack}
-use Rattle.lines.proofs.Cuts.{pieces_front, pieces_single}
 use Rattle.lines.proofs.Figures.{own}
-
-single : (xs : List ℕ) → length xs ≡ 1 → xs ≡ get_or xs 0 0 ∷ []
-single [] h = absurd (omega arith)
-single (x ∷ []) h = refl
-single (x ∷ y ∷ xs) h = absurd (omega arith)
-
--- a first field of one byte
-pub one_letter : (line first : List ℕ) (l : ℕ) → first ≡ field line 0 → length first ≡ 1 → l ≡ get_or first 0 0 → field line 0 ≡ l ∷ []
-one_letter line first l e one is = sym e ∙ single first one ∙ ap (λ x. x ∷ []) (sym is)
-
--- the pieces joined again
-rejoined_onto : (c b : ℕ) (ps : List (List ℕ)) → 0 < length ps → join_with_byte c (onto b ps) ≡ b ∷ join_with_byte c ps
-rejoined_onto c b [] some = absurd (omega arith)
-rejoined_onto c b (p ∷ []) some = refl
-rejoined_onto c b (p ∷ q ∷ ps) some = refl
-
-rejoined_nil : (c : ℕ) (ps : List (List ℕ)) → 0 < length ps → join_with_byte c ([] ∷ ps) ≡ c ∷ join_with_byte c ps
-rejoined_nil c [] some = absurd (omega arith)
-rejoined_nil c (p ∷ ps) some = refl
-
-length_onto_some : (b : ℕ) (ps : List (List ℕ)) → 0 < length (onto b ps)
-length_onto_some b [] = omega arith
-length_onto_some b (p ∷ ps) = omega arith
-
-pub pieces_some : (c : ℕ) (s : List ℕ) → 0 < length (pieces c s)
-pieces_some c [] = omega arith
-pieces_some c (b ∷ s) = elim (eqb b c) as (λ v. 0 < length (cond v ([] ∷ pieces c s) (onto b (pieces c s)))) [ true ↦ omega arith | false ↦ length_onto_some b (pieces c s) ]
-
-rejoined_step : (c b : ℕ) (s : List ℕ) (v : Bool) → eqb b c ≡ v → join_with_byte c (pieces c s) ≡ s → join_with_byte c (cond v ([] ∷ pieces c s) (onto b (pieces c s))) ≡ b ∷ s
-rejoined_step c b s true e back = rejoined_nil c (pieces c s) (pieces_some c s) ∙ ap (λ l. c ∷ l) back ∙ ap (λ x. x ∷ s) (sym (eqb-true b c e))
-rejoined_step c b s false e back = rejoined_onto c b (pieces c s) (pieces_some c s) ∙ ap (λ l. b ∷ l) back
-
-pub rejoined_pieces : (c : ℕ) (s : List ℕ) → join_with_byte c (pieces c s) ≡ s
-rejoined_pieces c [] = refl
-rejoined_pieces c (b ∷ s) = rejoined_step c b s (eqb b c) refl (rejoined_pieces c s)
 
 -- a letter and numbers, as fields and as a line
 rejoined_numbers : (p ns : List ℕ) → join_with_byte 44 (p ∷ map decimal ns) ≡ p ++ drop 1 (spell 0 ns)
@@ -56,22 +22,27 @@ rejoined_numbers p [] = sym (append-nil p)
 rejoined_numbers p (n ∷ ns) = ap (λ l. p ++ (44 ∷ l)) (rejoined_numbers (decimal n) ns)
 
 pub line_from_fields : (line : List ℕ) (l : ℕ) (ns : List ℕ) → fields line ≡ (l ∷ []) ∷ map decimal ns → line ≡ spell l ns
-line_from_fields line l ns e = sym (rejoined_pieces 44 line) ∙ ap (join_with_byte 44) e ∙ rejoined_numbers (l ∷ []) ns
+line_from_fields line l ns e = sym (join_with_byte-slice_split 44 line) ∙ ap (join_with_byte 44) e ∙ rejoined_numbers (l ∷ []) ns
 
-lacks_comma : (n : ℕ) → n ≤ 999 → Lacks 44 (decimal n)
-lacks_comma n small = not_in_digits own (decimal n) 44 (digits_decimal own n (omega arith)) (λ d. omega arith)
+-- no byte of p is a comma
+abbrev Bare : List ℕ → Type 0
+Bare p = All (λ b. eqb b 44 ≡ false) p
 
-pieces_numbers : (p ns : List ℕ) → Lacks 44 p → Small ns → pieces 44 (p ++ drop 1 (spell 0 ns)) ≡ p ∷ map decimal ns
-pieces_numbers p [] lacks small = ap (pieces 44) (append-nil p) ∙ pieces_single 44 p lacks
-pieces_numbers p (n ∷ ns) lacks (here, there) =
-    pieces_front 44 p (decimal n ++ drop 1 (spell 0 ns)) lacks ∙ ap (λ l. p ∷ l) (pieces_numbers (decimal n) ns (lacks_comma n here) there)
+bare_number : (n : ℕ) → n ≤ 999 → Bare (decimal n)
+bare_number n small =
+    All-from_get_or (λ b. eqb b 44 ≡ false) (decimal n) 0 (λ i lt. ne_eqb _ 44 (not_in_digits own (decimal n) 44 (digits_decimal own n (omega arith)) (λ d. omega arith) i lt))
 
-letter_lacks : (l : ℕ) → (l ≡ 44 → ⊥) → Lacks 44 (l ∷ [])
-letter_lacks l ne zero lt e = ne e
-letter_lacks l ne (suc i) lt e = absurd (omega arith)
+bare_letter : (l : ℕ) → (l ≡ 44 → ⊥) → Bare (l ∷ [])
+bare_letter l ne zero d lt = ne_eqb l 44 ne
+bare_letter l ne (suc i) d lt = absurd (omega arith)
+
+pieces_numbers : (p ns : List ℕ) → Bare p → Small ns → pieces 44 (p ++ drop 1 (spell 0 ns)) ≡ p ∷ map decimal ns
+pieces_numbers p [] bare small = ap (pieces 44) (append-nil p) ∙ slice_split_none _ p bare
+pieces_numbers p (n ∷ ns) bare (here, there) =
+    slice_split_at _ p 44 (decimal n ++ drop 1 (spell 0 ns)) bare refl ∙ ap (λ l. p ∷ l) (pieces_numbers (decimal n) ns (bare_number n here) there)
 
 pub fields_spell : (l : ℕ) (ns : List ℕ) → (l ≡ 44 → ⊥) → Small ns → fields (spell l ns) ≡ (l ∷ []) ∷ map decimal ns
-fields_spell l ns ne small = pieces_numbers (l ∷ []) ns (letter_lacks l ne) small
+fields_spell l ns ne small = pieces_numbers (l ∷ []) ns (bare_letter l ne) small
 
 same_numbers : (ms ns : List ℕ) → AllByRecursion (λ n. n ≤ 999) ms → AllByRecursion (λ n. n ≤ 999) ns → map decimal ms ≡ map decimal ns → ms ≡ ns
 same_numbers [] [] p q e = refl
@@ -97,7 +68,7 @@ module _ (known : ℕ → Type 0) (counted : ℕ → ℕ → Type 0) (comma : kn
     numeral i lt =
         let within : i < length ns = omega (arith, told_count) in (
           get_or ns i 0,
-          All-get_or (λ n. n ≤ 999) ns i 0 within s.small,
+          recursion.All-get_or (λ n. n ≤ 999) ns i 0 within s.small,
           ap (λ fs. get_or fs (i + 1) []) told ∙ rw add-one (get_or-map decimal ns i 0 [] within),
         )
 
@@ -143,7 +114,7 @@ fields_from line l n vs first counted room each =
 
 pub small_front : (n : ℕ) (vs : List ℕ) → ((i : ℕ) → i < n → get_or vs i 0 ≤ 999) → Small (take n vs)
 small_front n vs each =
-    All-from_get_or (λ m. m ≤ 999) (take n vs) 0 (λ i lt. let here : i < n = omega (arith, length-take n vs) in omega (arith, get_or-take n vs i 0 here, each i here))
+    recursion.All-from_get_or (λ m. m ≤ 999) (take n vs) 0 (λ i lt. let here : i < n = omega (arith, length-take n vs) in omega (arith, get_or-take n vs i 0 here, each i here))
 
 -- where a field is bad, not all are numbers
 pub no_number : (line : List ℕ) {i : ℕ} → FirstBad line i → Numbered line → ⊥

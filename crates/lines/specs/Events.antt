@@ -1,8 +1,8 @@
 -- Event lines: one table of letters and numbers, by which events are written and read.
-use Rattle.std.specs.Prelude.{◌≡◌, ℕ, List, [], ◌∷◌, Ok, Option, Result}
-use Rattle.std.specs.Option as options
+use Rattle.std.specs.Prelude.{◌≡◌, ℕ, List, [], ◌∷◌, Ok, Result}
 use Rattle.std.specs.Result as results
 use Rattle.refusals.specs.declared.Refusal.{Refusal}
+use Rattle.refusals.specs.declared.Refusal.TheVariants.{UnknownLetter}
 use Rattle.refusals.specs.Checks.{FirstRefusal}
 use Rattle.rules.specs.declared.vocabulary.Action.{Action}
 use Rattle.rules.specs.declared.vocabulary.Action.TheVariants.{Begin, OpenBlock, LeaveBlock, Call, Accept, EndRendezvous, Finish}
@@ -67,9 +67,9 @@ known l = (k : Kind) × (l ≡ letter k)
 abbrev pub counted : ℕ → ℕ → Type 0
 counted l n = (k : Kind) × (l ≡ letter k) × (n ≡ arity k)
 
--- r is the kind that has the letter l, if there is one
-abbrev pub StandsFor : ℕ → Option Kind → Type 0
-StandsFor l r = options.MatchOption r (known l → ⊥) (λ k. l ≡ letter k)
+-- r is the kind that has the letter l, or else the refusal of an unknown letter, where no kind has it
+abbrev pub StandsFor : ℕ → Result Kind Refusal → Type 0
+StandsFor l r = results.MatchResult r (λ k. l ≡ letter k) (λ e. (known l → ⊥) × (e ≡ UnknownLetter))
 
 -- what the reader answers: the event that the line spells, with no number over 999, or the first check that refuses the line
 abbrev pub ReadsEvent : List ℕ → Result Event Refusal → Type 0

@@ -7,6 +7,7 @@ use Rattle.refusals.specs.declared.Refusal.{Refusal}
 use Rattle.refusals.specs.declared.Refusal.TheVariants.{LineLength, UnknownLetter, FieldCount, NotANumber}
 use Rattle.refusals.specs.Checks.{Checks, done, check, FirstRefusal}
 use Rattle.lines.specs.declared.fields.Fields.{Fields}
+use Rattle.lines.specs.declared.reader.BadField.{BadField}
 use Rattle.lines.specs.Numbers.{Numeral}
 use Rattle.lines.specs.Pieces.{pieces}
 
@@ -83,7 +84,7 @@ pub record FirstBad (line : List ℕ) (i : ℕ) : Type 0 where
   pub bad : Numeral (field line i) → ⊥
 
 -- the answer where only the numbers are looked at: these, or the first bad field, counted with the letter as 1
-abbrev pub ReadsNumbers : List ℕ → Result (List ℕ) ℕ → Type 0
+abbrev pub ReadsNumbers : List ℕ → Result (List ℕ) BadField → Type 0
 ReadsNumbers line r =
     results.MatchResult r (λ ns. (length ns ≡ 32) × ((i : ℕ) → i + 1 < length (fields line) → (slice_index ns i ≤ 999) × (field line (i + 1) ≡ decimal (slice_index ns i))))
-    (λ place. (i : ℕ) × (place ≡ i + 1) × FirstBad line i)
+    (λ e. (i : ℕ) × (e.place ≡ i + 1) × FirstBad line i)

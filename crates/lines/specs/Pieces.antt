@@ -1,22 +1,16 @@
 -- A list of bytes, cut at a byte: the fields of a line, and the lines of an input.
 use Rattle.std.specs.Prelude.{◌≡◌, ℕ, ◌<◌, cond, ◌⊎◌, List, [], ◌∷◌, ◌++◌, length, Option, MatchOption, ◌==◌, ◌≢◌, slice_index}
 use Rattle.std.specs.Borrow.{Bor}
-use Rattle.std.specs.List.{flat_map, AllByRecursion}
-
--- the byte b in front of the first piece
-abbrev pub onto : ℕ → List (List ℕ) → List (List ℕ)
-onto b [] = (b ∷ []) ∷ []
-onto b (p ∷ ps) = (b ∷ p) ∷ ps
+use Rattle.std.specs.List.{flat_map, slice_split, onto_first, AllByRecursion}
 
 -- what stands between the bytes c: one piece more than there are bytes c
 abbrev pub pieces : ℕ → List ℕ → List (List ℕ)
-pieces c [] = [] ∷ []
-pieces c (b ∷ bs) = cond (b == c) ([] ∷ pieces c bs) (onto b (pieces c bs))
+pieces c = slice_split (λ b. b == c)
 
 -- the lines of an input: each is ended by byte 10, the last end is optional, and an empty input has no line
 abbrev pub lines_of : List ℕ → List (List ℕ)
 lines_of [] = []
-lines_of (b ∷ bs) = cond (b == 10) ([] ∷ lines_of bs) (onto b (lines_of bs))
+lines_of (b ∷ bs) = cond (b == 10) ([] ∷ lines_of bs) (onto_first b (lines_of bs))
 
 -- the byte c is not in bs
 abbrev pub Lacks : ℕ → List ℕ → Type 0

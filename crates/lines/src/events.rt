@@ -20,22 +20,26 @@ pub enum Kind {
     Finish,
 }
 
-impl Kind {
-    pub fn from_letter(letter: char) -> Option<Self>
-        ensures { StandsFor letter result }
-    {
+impl TryFrom<char> for Kind {
+    type Error = Refusal;
+
+    ghost try_from_gives = { StandsFor };
+
+    fn try_from(letter: char) -> Result<Self, Refusal> {
         match letter {
-            'N' => Some(Kind::Begin),
-            'B' => Some(Kind::OpenBlock),
-            'L' => Some(Kind::LeaveBlock),
-            'C' => Some(Kind::Call),
-            'A' => Some(Kind::Accept),
-            'E' => Some(Kind::EndRendezvous),
-            'F' => Some(Kind::Finish),
-            _ => None,
+            'N' => Ok(Kind::Begin),
+            'B' => Ok(Kind::OpenBlock),
+            'L' => Ok(Kind::LeaveBlock),
+            'C' => Ok(Kind::Call),
+            'A' => Ok(Kind::Accept),
+            'E' => Ok(Kind::EndRendezvous),
+            'F' => Ok(Kind::Finish),
+            _ => Err(Refusal::UnknownLetter),
         }
     }
+}
 
+impl Kind {
     // How many numbers follow the letter.
     pub fn arity(self) -> usize
         ensures { result ≡ arity self }
@@ -84,17 +88,11 @@ impl Alphabet for EventLetters {
     ghost comma = { Prim.search rules };
 
     fn knows(letter: char) -> bool {
-        match Kind::from_letter(letter) {
-            Some(_) => true,
-            None => false,
-        }
+        Kind::try_from(letter).is_ok()
     }
 
     fn counts(letter: char, numbers: usize) -> bool {
-        match Kind::from_letter(letter) {
-            Some(kind) => kind.arity() == numbers,
-            None => false,
-        }
+        Kind::try_from(letter).is_ok_and(|kind| kind.arity() == numbers)
     }
 }
 
@@ -104,8 +102,6 @@ pub fn read_event(line: &[u8]) -> Result<Event, Refusal>
     ensures every { ReadsEveryEvent line.now result }
 {
     let fields = read_line::<EventLetters>(line)?;
-    match Kind::from_letter(fields.letter()) {
-        Some(kind) => Ok(kind.event(fields.numbers())),
-        None => unreachable(),
-    }
+    let kind = Kind::try_from(fields.letter())?;
+    Ok(kind.event(fields.numbers()))
 }

@@ -9,7 +9,7 @@ const MOST_DIGITS: usize = 3;
 fn has_leading_zero(s: &[u8]) -> bool
     ensures { MatchBool result (LeadingZero s.now) (LeadingZero s.now → ⊥) }
 {
-    s.len() > 1 && s[0] == b'0'
+    matches!(s, [b'0', _, ..])
 }
 
 // The number that `s` writes: decimal, 0 to 999, without leading zeros.

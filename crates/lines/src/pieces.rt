@@ -6,26 +6,17 @@ ghost use Rattle.lines.specs.Pieces.{Cut, pieces};
 pub fn cut(s: &[u8], sep: u8) -> (&[u8], Option<&[u8]>)
     ensures { Cut sep s.now result }
 {
-    for (i, b) in s.iter().enumerate() {
-        if *b == sep {
-            return (&s[0..i], Some(&s[i + 1..]));
-        }
+    match s.iter().position(|b| *b == sep) {
+        Some(i) => (&s[..i], Some(&s[i + 1..])),
+        None => (s, None),
     }
-    (s, None)
 }
 
 // The piece at place `k`, from 0, of those between the bytes `sep`; empty past the last.
 pub fn piece(s: &[u8], sep: u8, k: usize) -> &[u8]
     ensures { result.now ≡ slice_index_or (pieces sep s.now) k [] }
 {
-    let mut rest = s;
-    for i in 0..k {
-        match cut(rest, sep) {
-            (_, Some(after)) => rest = after,
-            (_, None) => return &s[0..0],
-        }
-    }
-    cut(rest, sep).0
+    s.split(|b| *b == sep).nth(k).unwrap_or(&s[..0])
 }
 
 // How many bytes `sep` there are: one fewer than pieces.
@@ -33,11 +24,5 @@ pub(crate) fn separators(s: &[u8], sep: u8) -> usize
     ensures pieces { result + 1 ≡ length (pieces sep s.now) }
     ensures few { result ≤ length s.now }
 {
-    let mut n = 0;
-    for b in s {
-        if *b == sep {
-            n += 1;
-        }
-    }
-    n
+    s.iter().filter(|b| **b == sep).count()
 }

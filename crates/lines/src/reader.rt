@@ -1,5 +1,6 @@
 // Reading a line, by the letters that a reader knows.
 ghost use Rattle.std.specs.Prelude.{◌≡◌, ℕ, ◌≤◌, List, length, MatchBool};
+ghost use Rattle.refusals.specs.declared.Refusal.TheVariants.{NotANumber};
 ghost use Rattle.lines.specs.Lines.{Sized, numbers, Reads, ReadsBack, ReadsLetter, ReadsNumbers};
 
 use crate::fields::{Fields, LINE_ROOM};
@@ -53,11 +54,10 @@ fn read_letter<A: Alphabet>(line: &[u8]) -> Result<char, Refusal>
     if !is_sized(line) {
         return Err(Refusal::LineLength);
     }
-    let first = piece(line, b',', 0);
-    if first.len() != 1 {
+    let [first] = piece(line, b',', 0) else {
         return Err(Refusal::UnknownLetter);
-    }
-    let letter = char::from(first[0]);
+    };
+    let letter = char::from(*first);
     if !A::knows(letter) {
         return Err(Refusal::UnknownLetter);
     }
@@ -67,17 +67,28 @@ fn read_letter<A: Alphabet>(line: &[u8]) -> Result<char, Refusal>
     Ok(letter)
 }
 
-// The numbers in the fields after the letter; or the first of these that is no number, counted with the letter as 1.
-fn read_numbers(line: &[u8]) -> Result<[u16; LINE_ROOM], usize>
+// A field after the letter that is no number: its place, counted with the letter as 1.
+#[derive(Clone, Copy, Debug, PartialEq, Eq)]
+struct BadField {
+    place: usize,
+}
+
+impl From<BadField> for Refusal {
+    ghost from_gives = { λ _ r. r ≡ NotANumber };
+
+    fn from(_: BadField) -> Self {
+        Refusal::NotANumber
+    }
+}
+
+// The numbers in the fields after the letter; or the first of these that is no number.
+fn read_numbers(line: &[u8]) -> Result<[u16; LINE_ROOM], BadField>
     requires { length line.now ≤ 32 }
     ensures { ReadsNumbers line.now result }
 {
     let mut values = [0; LINE_ROOM];
-    for i in 0..separators(line, b',') {
-        let Some(n) = read_number(piece(line, b',', i + 1)) else {
-            return Err(i + 2);
-        };
-        values[i] = n;
+    for (i, field) in line.split(|b| *b == b',').skip(1).enumerate() {
+        values[i] = read_number(field).ok_or(BadField { place: i + 2 })?;
     }
     Ok(values)
 }
@@ -88,9 +99,7 @@ pub fn read_line<A: Alphabet>(line: &[u8]) -> Result<Fields, Refusal>
     ensures back { ReadsBack A.known A.counted line.now result }
 {
     let letter = read_letter::<A>(line)?;
-    let Ok(values) = read_numbers(line) else {
-        return Err(Refusal::NotANumber);
-    };
+    let values = read_numbers(line)?;
     let count = separators(line, b',');
     Ok(Fields {
         letter,

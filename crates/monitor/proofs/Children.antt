@@ -8,7 +8,6 @@ use Rattle.rules.specs.Changes.{birth, new_task}
 use Rattle.rules.specs.Limits.{most_tasks}
 use Rattle.rules.specs.Picture.{Picture, Task, status}
 use Rattle.rules.specs.Rules.{Step, begins, opens, leaves, waits_to_leave, errs, meets, queues, takes, waits_to_accept, ends_rendezvous, completes, ends}
-use Rattle.rules.proofs.Basics.Statuses.{clash}
 use Rattle.rules.proofs.Basics.Tasks.{at_same, at_other}
 
 pub record Begins (q : Picture) (a c : ℕ) : Type 0 where
@@ -24,14 +23,14 @@ child_begins (begins {p} {a} {n = k} acts room few) c n e =
       child = ap (λ x. status (birth p a k) x) next ∙ ap (λ (t : Task). t.status) (at_same p.task p.begun (new_task p a k));
       creator = ap (λ (t : Task). t.status) (at_other p.task p.begun (new_task p a k) a (omega (arith, acts.0))) ∙ acts.1;
     }
-child_begins (opens acts room) c n e = absurd (clash (cc))
-child_begins (leaves acts f over) c n e = absurd (clash (cc))
-child_begins (waits_to_leave acts f over) c n e = absurd (clash (cc))
-child_begins (errs acts b en d) c n e = absurd (clash (cc))
-child_begins (meets acts b en z i) c n e = absurd (clash (cc))
-child_begins (queues acts b en x y z) c n e = absurd (clash (cc))
-child_begins (takes acts op room k) c n e = absurd (clash (cc))
-child_begins (waits_to_accept acts op room k) c n e = absurd (clash (cc))
-child_begins (ends_rendezvous acts f) c n e = absurd (clash (cc))
-child_begins (completes acts f over) c n e = absurd (clash (cc))
-child_begins (ends acts f over s) c n e = absurd (clash (cc))
+child_begins (opens acts room) c n e = absurd (cc)
+child_begins (leaves acts f over) c n e = absurd (cc)
+child_begins (waits_to_leave acts f over) c n e = absurd (cc)
+child_begins (errs acts b en d) c n e = absurd (cc)
+child_begins (meets acts b en z i) c n e = absurd (cc)
+child_begins (queues acts b en x y z) c n e = absurd (cc)
+child_begins (takes acts op room k) c n e = absurd (cc)
+child_begins (waits_to_accept acts op room k) c n e = absurd (cc)
+child_begins (ends_rendezvous acts f) c n e = absurd (cc)
+child_begins (completes acts f over) c n e = absurd (cc)
+child_begins (ends acts f over s) c n e = absurd (cc)

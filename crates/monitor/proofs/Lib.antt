@@ -3,4 +3,3 @@ pub mod EveryRun
 pub mod Exactly
 pub mod PlaysAs
 pub mod QuestionsAnswered
-pub mod Same

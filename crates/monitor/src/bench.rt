@@ -4,6 +4,7 @@ ghost use Rattle.monitor.specs.Bench.{TapeReported};
 
 use crate::monitor::Monitor;
 use refusals::Refusal;
+use reports::Ending;
 use tape::PlayRefusal;
 
 // Plays the tape on a new monitor and writes the report into the buffer. Answers the length; a tape that is too long, and a
@@ -13,11 +14,10 @@ pub fn report_of_tape(tape: &[u8], buffer: &mut [u8]) -> Result<usize, Refusal>
     ensures within { IfOk result (λ n. n ≤ length buffer.old) }
 {
     let (mut monitor, _ticket) = Monitor::new();
-    match monitor.play(tape) {
-        Ok(told) => monitor.report(told as u64, false, buffer),
-        Err(refusal) => match refusal {
-            PlayRefusal::LineRefused { told } => monitor.report(told as u64, true, buffer),
-            PlayRefusal::TapeTooLong => Err(Refusal::InputTooLong),
-        },
-    }
+    let ending = match monitor.play(tape) {
+        Ok(told) => Ending::Whole { told: told as u64 },
+        Err(PlayRefusal::LineRefused { told }) => Ending::Stopped { told: told as u64 },
+        Err(PlayRefusal::TapeTooLong) => return Err(Refusal::InputTooLong),
+    };
+    monitor.report(ending, buffer)
 }

@@ -13,4 +13,5 @@ mod tickets;
 pub use bench::report_of_tape;
 pub use law::names_are_exact_in_every_run;
 pub use monitor::Monitor;
-pub use tickets::{RunningTicket, Told, WaitingTicket};
+pub use reports::Ending;
+pub use tickets::{Refused, Running, RunningTicket, Ticket, Tickets, Told, Waiting, WaitingTicket};

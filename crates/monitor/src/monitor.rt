@@ -9,5 +9,5 @@ use task_book::{NameSet, TaskWatch};
 pub struct Monitor {
     pub(crate) tasks: TaskWatch,
     pub(crate) names: NameSet,
-    ghost exact: { ∥ (HoldsDead names.0 (picture_of tasks.watch.book)) ∥₁ },
+    ghost exact: { ∥ (HoldsDead names (picture_of tasks.watch.book)) ∥₁ },
 }

@@ -14,7 +14,7 @@ impl Teller for Monitor {
 
     fn tell_line(&mut self, line: &[u8]) -> Result<(), Refusal> {
         let event = read_event(line)?;
-        let (_outcome, _added) = self.tell_event(event)?;
+        self.tell_event(event)?;
         Ok(())
     }
 }
@@ -22,6 +22,7 @@ impl Teller for Monitor {
 impl Monitor {
     // Tells the events of a tape, line by line up to the first that is refused, and answers how many lines it told. Played
     // events need no ticket.
+    #[tactic(auto, using(crate::proofs::PlaysAs::plays_as))]
     pub fn play(&mut self, tape: &[u8]) -> Result<usize, PlayRefusal>
         ensures { TapePlayed (state_of self.old) tape.now result (state_of self.new) }
     {

@@ -17,6 +17,7 @@ impl Monitor {
     }
 
     // Whether a task is named: it can never go on.
+    #[tactic(auto, using(crate::proofs::Exactly::exact_names))]
     pub fn is_named(&self, task: u16) -> bool
         ensures { Decides result (Dead (state_of self.now).picture task) }
     {
@@ -27,10 +28,11 @@ impl Monitor {
     pub fn named_count(&self) -> usize
         ensures { DeadCount (state_of self.now).picture result }
     {
-        self.names.count()
+        self.names.len()
     }
 
     // The lowest named task from a number on.
+    #[tactic(auto, using(crate::proofs::Exactly::exact_names, crate::proofs::QuestionsAnswered::lowest))]
     pub fn lowest_named(&self, from: u16) -> Option<usize>
         ensures { LowestDead (state_of self.now).picture from result }
     {

@@ -8,7 +8,7 @@ ghost use Rattle.rules.specs.Picture.{status};
 
 use crate::monitor::Monitor;
 use refusals::Refusal;
-use reports::{Roster, Row, Wait, write_report};
+use reports::{Ending, Roster, Row, Wait, write_report};
 use rules::Status;
 
 impl Monitor {
@@ -16,30 +16,30 @@ impl Monitor {
     fn wait_of(&self, task: u8) -> Option<Wait>
         ensures { result ≡ wait_with (state_of self.now).picture task (status (state_of self.now).picture task) }
     {
-        match self.status(u16::from(task)) {
-            Status::Queued { server, .. } => Some(Wait::Queued { server }),
-            Status::Engaged { server } => Some(Wait::Engaged { server }),
-            Status::Accepting { mask } => Some(Wait::Accepting { mask }),
+        let book = &self.tasks.watch.book;
+        let wait = match self.status(u16::from(task)) {
+            Status::Queued { server, .. } => Wait::Queued { server },
+            Status::Engaged { server } => Wait::Engaged { server },
+            Status::Accepting { mask } => Wait::Accepting { mask },
             Status::Leaving => {
-                let unfinished = self.tasks.watch.book.unfinished_in_block(task);
-                Some(Wait::Leaving { unfinished })
+                let unfinished = book.unfinished_in_block(task);
+                Wait::Leaving { unfinished }
             }
             Status::Completed => {
-                let unfinished = self.tasks.watch.book.unfinished_in_all(task);
-                Some(Wait::Completed { unfinished })
+                let unfinished = book.unfinished_in_all(task);
+                Wait::Completed { unfinished }
             }
-            Status::NotBegun => None,
-            Status::Running => None,
-            Status::Terminated => None,
-        }
+            Status::NotBegun | Status::Running | Status::Terminated => return None,
+        };
+        Some(wait)
     }
 
-    // Writes the report into the buffer: a line for each named task, the lowest first, and the closing line of a tape of
-    // which so many lines were told, and which was stopped or not. Answers the length.
-    pub fn report(&self, told: u64, stopped: bool, buffer: &mut [u8]) -> Result<usize, Refusal>
-        ensures { Written (report_text (rows_below (named_row (state_of self.now)) most_tasks) told stopped) buffer.old result buffer.new }
+    // Writes the report into the buffer: a line for each named task, the lowest first, and the closing line of a tape that
+    // ended so. Answers the length.
+    pub fn report(&self, ending: Ending, buffer: &mut [u8]) -> Result<usize, Refusal>
+        ensures { Written (report_text (rows_below (named_row (state_of self.now)) most_tasks) ending) buffer.old result buffer.new }
     {
-        write_report(buffer, self, told, stopped)
+        write_report(buffer, self, ending)
     }
 }
 
@@ -50,9 +50,6 @@ impl Roster for Monitor {
         if !self.names.contains(usize::from(task)) {
             return None;
         }
-        match self.wait_of(task) {
-            Some(wait) => Some(Row { task, wait }),
-            None => None,
-        }
+        self.wait_of(task).map(|wait| Row { task, wait })
     }
 }

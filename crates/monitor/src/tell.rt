@@ -8,6 +8,13 @@ use rules::{Event, Outcome};
 use task_book::{NameSet, TaskWatch};
 use tasks::Picture;
 
+// The outcome of an accepted event, and the names that it added.
+#[derive(Drop)]
+pub(crate) struct Accepted {
+    pub(crate) outcome: Outcome,
+    pub(crate) added: NameSet,
+}
+
 impl Monitor {
     // A monitor of a program that has just begun: only task 0 runs.
     pub(crate) fn of_new_program() -> Monitor
@@ -15,21 +22,24 @@ impl Monitor {
     {
         Monitor {
             tasks: TaskWatch::new(Picture::new()),
-            names: NameSet(0),
+            names: NameSet::empty(),
         }
     }
 
-    // Tells an event, whoever its actor is. Answers its outcome and the names that it added.
-    pub(crate) fn tell_event(&mut self, event: Event) -> Result<(Outcome, u64), Refusal>
+    // Tells an event, whoever its actor is.
+    pub(crate) fn tell_event(&mut self, event: Event) -> Result<Accepted, Refusal>
         ensures { EventTold self.old event result self.new }
     {
         let outcome = self.tasks.watch.book.picture.tell(event)?;
         if !self.tasks.watch.book.may_make_dead(event, outcome) {
-            return Ok((outcome, 0));
+            return Ok(Accepted {
+                outcome,
+                added: NameSet::empty(),
+            });
         }
         let names = self.tasks.judge();
-        let added = names & !self.names.0;
-        self.names = NameSet(names);
-        Ok((outcome, added))
+        let added = names.difference(self.names);
+        self.names = names;
+        Ok(Accepted { outcome, added })
     }
 }

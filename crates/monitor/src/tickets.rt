@@ -5,54 +5,71 @@ ghost use Rattle.monitor.specs.State.{New};
 ghost use Rattle.monitor.specs.Tickets.{TicketTold, TicketAfter, Exchanged};
 
 use crate::monitor::Monitor;
+use crate::tell::Accepted;
 use refusals::Refusal;
 use rules::{Action, Event, Outcome, Status};
+use std::marker::PhantomData;
+use task_book::NameSet;
 
-// The right to tell one event of a Running task. It is moved and never copied, so a told event spends it.
+// The state of a task that may tell an event.
+pub struct Running;
+
+// The state of a task that waits.
+pub struct Waiting;
+
+// The ticket of a task in the state `S`. It is moved and never copied, so a told event spends it.
 #[derive(Drop)]
-pub struct RunningTicket {
+pub struct Ticket<S> {
     task: u8,
+    state: PhantomData<S>,
 }
+
+// The right to tell one event of a Running task.
+pub type RunningTicket = Ticket<Running>;
 
 // What a task has in its place while it waits.
-#[derive(Drop)]
-pub struct WaitingTicket {
-    task: u8,
+pub type WaitingTicket = Ticket<Waiting>;
+
+impl<S> Ticket<S> {
+    fn of(task: u8) -> Ticket<S>
+        ensures { result.task ≡ task }
+    {
+        Ticket {
+            task,
+            state: PhantomData,
+        }
+    }
 }
 
-// What became of a told event and of its ticket; of an accepted one also its outcome and the names that it added, bit t for
-// task t.
+// What became of a told event: its outcome, the names that it added, and the tickets that there are now.
 #[derive(Drop)]
-pub enum Told {
-    // Nothing has changed; the ticket comes back.
-    Refused {
-        ticket: RunningTicket,
-        refusal: Refusal,
-    },
+pub struct Told {
+    pub outcome: Outcome,
+    pub added: NameSet,
+    pub tickets: Tickets,
+}
+
+// The tickets that there are after an event of a task.
+#[derive(Drop)]
+pub enum Tickets {
     // The task is Running.
-    Runs {
-        ticket: RunningTicket,
-        outcome: Outcome,
-        added: u64,
-    },
-    // The task is Running, and so is the one that it has begun, whose first ticket is `child`.
+    Runs(RunningTicket),
+    // The task is Running, and so is the one that it has begun.
     Begun {
-        ticket: RunningTicket,
+        creator: RunningTicket,
         child: RunningTicket,
-        outcome: Outcome,
-        added: u64,
     },
     // The task waits.
-    Waits {
-        ticket: WaitingTicket,
-        outcome: Outcome,
-        added: u64,
-    },
+    Waits(WaitingTicket),
     // The task has finished, and has no ticket any more.
-    Finished {
-        outcome: Outcome,
-        added: u64,
-    },
+    Finished,
+}
+
+// Why an event was refused: nothing has changed, and the ticket comes back.
+#[derive(Drop)]
+pub struct Refused {
+    pub ticket: RunningTicket,
+    pub refusal: Refusal,
 }
 
 impl Monitor {
@@ -61,59 +78,44 @@ impl Monitor {
         ensures monitor { New (state_of result.0) }
         ensures ticket { result.1.task ≡ 0 }
     {
-        (Monitor::of_new_program(), RunningTicket { task: 0 })
+        (Monitor::of_new_program(), Ticket::of(0))
     }
 
     // Tells what the ticket's task is about to do.
-    pub fn tell(&mut self, ticket: RunningTicket, action: Action) -> Told
+    pub fn tell(&mut self, ticket: RunningTicket, action: Action) -> Result<Told, Refused>
         ensures { TicketTold self.old ticket.task action result self.new }
     {
-        let RunningTicket { task } = ticket;
-        let actor = u16::from(task);
-        let (outcome, added) = match self.tell_event(Event { actor, action }) {
-            Ok(answer) => answer,
-            Err(refusal) => {
-                let ticket = RunningTicket { task };
-                return Told::Refused { ticket, refusal };
-            }
+        let actor = u16::from(ticket.task);
+        let Accepted { outcome, added } = match self.tell_event(Event { actor, action }) {
+            Ok(accepted) => accepted,
+            Err(refusal) => return Err(Refused { ticket, refusal }),
         };
-        match action {
-            Action::Finish => Told::Finished { outcome, added },
+        let tickets = match action {
+            Action::Finish => Tickets::Finished,
             Action::Begin { child, .. } => {
-                let ticket = RunningTicket { task };
-                let child = RunningTicket { task: child as u8 };
-                Told::Begun {
-                    ticket,
+                let child = Ticket::of(child as u8);
+                Tickets::Begun {
+                    creator: ticket,
                     child,
-                    outcome,
-                    added,
                 }
             }
-            _ => self.ticket_after(task, outcome, added),
-        }
+            _ => self.ticket_after(ticket),
+        };
+        Ok(Told {
+            outcome,
+            added,
+            tickets,
+        })
     }
 
     // The ticket that the task has now.
-    fn ticket_after(&self, task: u8, outcome: Outcome, added: u64) -> Told
-        ensures { TicketAfter self.now task outcome added result }
+    fn ticket_after(&self, ticket: RunningTicket) -> Tickets
+        ensures { TicketAfter self.now ticket.task result }
     {
-        match self.status(u16::from(task)) {
-            Status::Running => {
-                let ticket = RunningTicket { task };
-                Told::Runs {
-                    ticket,
-                    outcome,
-                    added,
-                }
-            }
-            _ => {
-                let ticket = WaitingTicket { task };
-                Told::Waits {
-                    ticket,
-                    outcome,
-                    added,
-                }
-            }
+        if self.status(u16::from(ticket.task)) == Status::Running {
+            Tickets::Runs(ticket)
+        } else {
+            Tickets::Waits(Ticket::of(ticket.task))
         }
     }
 
@@ -121,10 +123,10 @@ impl Monitor {
     pub fn exchange(&self, ticket: WaitingTicket) -> Result<RunningTicket, WaitingTicket>
         ensures { Exchanged self.now ticket.task result }
     {
-        let WaitingTicket { task } = ticket;
-        match self.status(u16::from(task)) {
-            Status::Running => Ok(RunningTicket { task }),
-            _ => Err(WaitingTicket { task }),
+        if self.status(u16::from(ticket.task)) == Status::Running {
+            Ok(Ticket::of(ticket.task))
+        } else {
+            Err(ticket)
         }
     }
 }

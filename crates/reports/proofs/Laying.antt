@@ -1,7 +1,8 @@
 -- Laws of bytes laid into a buffer.
-use Rattle.std.proofs.Common.{◌≡◌, ℕ, ◌+◌, ◌≤◌, List, [], ◌∷◌, ◌++◌, length, take, drop, set, sym, refl, ap, ◌∙◌, subst, add-zero, arith}
-use Rattle.std.proofs.lemmas.List.{length-set, length-append, take_more_set, drop-set-lt, append_assoc, append-nil}
-use Rattle.reports.specs.Layout.{over, Puts}
+use Rattle.std.proofs.Common.{◌≡◌, ℕ, ◌+◌, ◌<◌, ◌≤◌, List, [], ◌∷◌, ◌++◌, length, take, drop, set, get_or, sym, refl, ap, ◌∙◌, subst, add-zero, arith}
+use Rattle.std.proofs.lemmas.List.{length-set, length-append, take_more, take_more_set, drop-set-lt, append_assoc, append-nil}
+use Rattle.reports.specs.declared.page.Page.{Page}
+use Rattle.reports.specs.Layout.{over, Puts, Takes}
 
 pub length_over : (xs : List ℕ) (at : ℕ) (bs : List ℕ) → length (over xs at bs) ≡ length xs
 length_over xs at [] = refl
@@ -13,14 +14,17 @@ over_append xs at (b ∷ bs) cs =
     ap (λ j. over (over (set xs at b) (at + 1) bs) j cs) (omega arith) ∙ over_append (set xs at b) (at + 1) bs cs
 
 -- one after another
-pub then : {xs ys zs : List ℕ} {at mid next : ℕ} {bs cs : List ℕ} → Puts xs at bs ys mid → Puts ys mid cs zs next → Puts xs at (bs ++ cs) zs next
-then {xs} {ys} {zs} {at} {mid} {next} {bs} {cs} p q = record {
+puts_then : {xs ys zs : List ℕ} {at mid next : ℕ} {bs cs : List ℕ} → Puts xs at bs ys mid → Puts ys mid cs zs next → Puts xs at (bs ++ cs) zs next
+puts_then {xs} {ys} {zs} {at} {mid} {next} {bs} {cs} p q = record {
   after = q.after ∙ ap (λ l. over l mid cs) p.after ∙ ap (λ j. over (over xs at bs) j cs) p.place ∙ over_append xs at bs cs;
   place = simp length-append (omega (arith, p.place, q.place));
 }
 
-pub puts_as : {xs ys : List ℕ} {at next : ℕ} {bs cs : List ℕ} → Puts xs at bs ys next → bs ≡ cs → Puts xs at cs ys next
-puts_as {xs} {ys} {at} {next} p e = subst (λ l. Puts xs at l ys next) e p
+pub then : {p q r : Page} {bs cs : List ℕ} → Takes p bs q → Takes q cs r → Takes p (bs ++ cs) r
+then h k = record { puts = puts_then h.puts k.puts; same_buffer = k.same_buffer ∙ h.same_buffer }
+
+pub takes_as : {p q : Page} {bs cs : List ℕ} → Takes p bs q → bs ≡ cs → Takes p cs q
+takes_as {p} {q} h e = subst (λ l. Takes p l q) e h
 
 -- what lies before, in and after the bytes, where there is room
 pub take_over : (xs : List ℕ) (at : ℕ) (bs : List ℕ) → at + length bs ≤ length xs → take (at + length bs) (over xs at bs) ≡ take at xs ++ bs
@@ -41,3 +45,9 @@ laid xs bs ys next p room =
     let front : take (0 + length bs) (over xs 0 bs) ≡ bs = take_over xs 0 bs (omega arith) in
     let rest = drop_over xs 0 bs next (omega arith) in
     (end, ap (take next) p.after ∙ ap (λ j. take j (over xs 0 bs)) p.place ∙ front, ap (drop next) p.after ∙ rest, omega arith)
+
+-- one byte more of bs
+pub more : {p q : Page} (r : Page) (bs : List ℕ) (i : ℕ) → i < length bs → Takes p (take i bs) q → r.buf.now ≡ set q.buf.now q.at (get_or bs i 0) → r.at ≡ q.at + 1 → r.buf.ghost_name ≡ q.buf.ghost_name → Takes p (take (i + 1) bs) r
+more {p} {q} r bs i within h e next same =
+    let one : Takes q (get_or bs i 0 ∷ []) r = record { puts = record { after = e; place = next }; same_buffer = same } in
+    takes_as (then h one) (sym (take_more bs i 0 within))

@@ -1,9 +1,10 @@
 -- The rows of the tasks, one task more.
-use Rattle.std.proofs.Common.{◌≡◌, ℕ, ◌+◌, List, [], ◌∷◌, ◌++◌, length, Some, None, Option, sym, refl, ap, ◌∙◌, add-one, arith}
+use Rattle.std.proofs.Common.{◌≡◌, ℕ, ◌+◌, [], ◌∷◌, ◌++◌, length, Some, None, Option, sym, refl, ap, ◌∙◌, add-one, arith}
 use Rattle.std.specs.List.{flat_map}
 use Rattle.std.proofs.lemmas.List.{append-nil, flat_map_more, length_push}
-use Rattle.reports.specs.Layout.{Puts}
-use Rattle.reports.proofs.Laying.{then, puts_as}
+use Rattle.reports.specs.declared.page.Page.{Page}
+use Rattle.reports.specs.Layout.{Takes}
+use Rattle.reports.proofs.Laying.{then, takes_as}
 use Rattle.reports.specs.declared.report.Row.{Row}
 use Rattle.reports.specs.Report.{rows_below, row_line}
 
@@ -19,12 +20,12 @@ pub more_some : (rows : ℕ → Option Row) (n : ℕ) (row : Row) → rows n ≡
 unfolding rows_below
 more_some rows n row e = rw (add-one, e)
 
-module _ (rows : ℕ → Option Row) (n : ℕ) (xs ys zs : List ℕ) (at next names : ℕ) (so_far : Puts xs 0 (flat_map row_line (rows_below rows n)) ys at) (counted : names ≡ length (rows_below rows n)) where
-  pub step_none : rows n ≡ None → Puts xs 0 (flat_map row_line (rows_below rows (n + 1))) ys at × (names ≡ length (rows_below rows (n + 1)))
-  step_none e = (puts_as so_far (ap (flat_map row_line) (sym (more_none rows n e))), counted ∙ ap length (sym (more_none rows n e)))
+module _ (rows : ℕ → Option Row) (n : ℕ) (p q : Page) (names : ℕ) (so_far : Takes p (flat_map row_line (rows_below rows n)) q) (counted : names ≡ length (rows_below rows n)) where
+  pub step_none : rows n ≡ None → Takes p (flat_map row_line (rows_below rows (n + 1))) q × (names ≡ length (rows_below rows (n + 1)))
+  step_none e = (takes_as so_far (ap (flat_map row_line) (sym (more_none rows n e))), counted ∙ ap length (sym (more_none rows n e)))
 
-  pub step_some : (row : Row) → rows n ≡ Some row → Puts ys at (row_line row) zs next → Puts xs 0 (flat_map row_line (rows_below rows (n + 1))) zs next × (names + 1 ≡ length (rows_below rows (n + 1)))
-  step_some row e h = (
-    puts_as (then so_far h) (flat_map_more row_line [] (rows_below rows n) row ∙ ap (flat_map row_line) (sym (more_some rows n row e))),
+  pub step_some : (row : Row) (r : Page) → rows n ≡ Some row → Takes q (row_line row) r → Takes p (flat_map row_line (rows_below rows (n + 1))) r × (names + 1 ≡ length (rows_below rows (n + 1)))
+  step_some row r e h = (
+    takes_as (then so_far h) (flat_map_more row_line [] (rows_below rows n) row ∙ ap (flat_map row_line) (sym (more_some rows n row e))),
     omega (arith, counted, length_push (rows_below rows n) row, ap length (more_some rows n row e)),
   )

@@ -13,7 +13,6 @@ use Rattle.rules.specs.declared.vocabulary.Outcome.{Outcome}
 use Rattle.rules.specs.declared.vocabulary.Outcome.TheVariants.{GoesOn, Rendezvous as RendezvousBegun, TaskingError, Terminated as Ended, Waits}
 use Rattle.rules.specs.declared.vocabulary.Status.TheVariants.{Accepting, Completed, Leaving, Running, Terminated}
 use Rattle.rules.proofs.Basics.Masters.{same_master}
-use Rattle.rules.proofs.Basics.Statuses.{clash}
 
 -- what the cascade comes to, by cases
 abbrev Settling : Picture → ℕ → Picture → Type 0
@@ -46,7 +45,7 @@ module _ (p : Picture) (t m n k l : ℕ) (e : (p.task t).master ≡ under m l) (
   ends_not_stays s o h = h (ap (status p) (sym who) ∙ s) (subst (AllOver p) who o)
 
   closes_not_ends : status p m ≡ Leaving → status p n ≡ Completed → ⊥
-  closes_not_ends s c = let h = ap (status p) who in clash (cc)
+  closes_not_ends s c = let h = ap (status p) who in cc
 
   same_close : (fs gs : List Frame) → frames p m ≡ Block ∷ fs → frames p n ≡ Block ∷ gs → close p n gs ≡ close p m fs
   same_close fs gs f g = let h = ap (frames p) who in let i : gs ≡ fs = cc in let j = sym who in λ x. close p (j x) (i x)
@@ -54,18 +53,18 @@ module _ (p : Picture) (t m n k l : ℕ) (e : (p.task t).master ≡ under m l) (
 pub settles_once : {p : Picture} {t : ℕ} {q r : Picture} → Settles p t q → Settles p t r → r ≡ q
 settles_once {p} {t} {q} {r} (no_master e) s = elim (settling s) [
   | inl (_, h) ↦ h
-  | inr (inl (m, fs, d, _, _, _, _)) ↦ absurd (clash (cc))
-  | inr (inr (inl (m, l, d, _, _, _))) ↦ absurd (clash (cc))
-  | inr (inr (inr (m, l, d, _, _, _))) ↦ absurd (clash (cc))
+  | inr (inl (m, fs, d, _, _, _, _)) ↦ absurd (cc)
+  | inr (inr (inl (m, l, d, _, _, _))) ↦ absurd (cc)
+  | inr (inr (inr (m, l, d, _, _, _))) ↦ absurd (cc)
 ]
 settles_once {p} {t} {q} {r} (block_closes {m = m} {fs = fs} e z f o) s = elim (settling s) [
-  | inl (d, _) ↦ absurd (clash (cc))
+  | inl (d, _) ↦ absurd (cc)
   | inr (inl (n, gs, d, y, g, _, h)) ↦ h ∙ same_close p t m n (suc (length gs)) (suc (length fs)) e d fs gs f g
   | inr (inr (inl (n, k, d, y, _, _))) ↦ absurd (closes_not_ends p t m n k (suc (length fs)) e d z y)
   | inr (inr (inr (n, k, d, n₁, _, _))) ↦ absurd (closes_not_stays p t m n k (suc (length fs)) e d fs refl z f o n₁)
 ]
 settles_once {p} {t} {q} {r} (master_ends {m = m} {l = l} e z o rest) s = elim (settling s) [
-  | inl (d, _) ↦ absurd (clash (cc))
+  | inl (d, _) ↦ absurd (cc)
   | inr (inl (n, gs, d, y, g, _, h)) ↦ absurd (closes_not_ends p t n m l (suc (length gs)) d e y z)
   | inr (inr (inl (n, k, d, y, _, more))) ↦ settles_once rest (subst (λ (x : ℕ). Settles (mark p x Terminated) x r) (sym (who p t m n k l e d)) more)
   | inr (inr (inr (n, k, d, _, n₂, _))) ↦ absurd (ends_not_stays p t m n k l e d z o n₂)
@@ -110,7 +109,7 @@ does (ends _ _ h s) = inr (h, refl, s)
 
 -- an accept takes one caller
 not_lower : (p : Picture) (a mask c e b f : ℕ) → Takes p a mask c e → Takes p a mask b f → e < f → ⊥
-not_lower p a mask c e b f h k l = let i = h.head in let j = k.lower e l h.opened in clash (cc)
+not_lower p a mask c e b f h k l = let i = h.head in let j = k.lower e l h.opened in cc
 
 same_entry : (p : Picture) (a mask c e b f : ℕ) → Takes p a mask c e → Takes p a mask b f → e ≡ f
 same_entry p a mask c e b f h k = elim (dec_lt e f) [
@@ -134,9 +133,9 @@ module _ (p : Picture) (a : ℕ) where
 
   same_call : (s e : ℕ) (o n : Outcome) (q r : Picture) → Does p a (Call s e) o q → Does p a (Call s e) n r → Same o n q r
   same_call s e o n q r (inl (_, h, k)) (inl (_, l, m)) = (h ∙ sym l, k ∙ sym m)
-  same_call s e o n q r (inl (x, h, k)) (inr (inl (mask, z, _, _, _))) = elim x [ inl w ↦ absurd (clash (cc)) | inr w ↦ absurd (clash (cc)) ]
+  same_call s e o n q r (inl (x, h, k)) (inr (inl (mask, z, _, _, _))) = elim x [ inl w ↦ absurd (cc) | inr w ↦ absurd (cc) ]
   same_call s e o n q r (inl (x, h, k)) (inr (inr (y, z, _, _, _))) = elim x [ inl w ↦ absurd (y w) | inr w ↦ absurd (z w) ]
-  same_call s e o n q r (inr (inl (mask, z, _, _, _))) (inl (x, h, k)) = elim x [ inl w ↦ absurd (clash (cc)) | inr w ↦ absurd (clash (cc)) ]
+  same_call s e o n q r (inr (inl (mask, z, _, _, _))) (inl (x, h, k)) = elim x [ inl w ↦ absurd (cc) | inr w ↦ absurd (cc) ]
   same_call s e o n q r (inr (inl (mask, z, i, h, k))) (inr (inl (_, _, _, l, m))) = (h ∙ sym l, k ∙ sym m)
   same_call s e o n q r (inr (inl (mask, z, i, h, k))) (inr (inr (_, _, w, _, _))) = absurd (w mask z i)
   same_call s e o n q r (inr (inr (y, z, _, _, _))) (inl (x, h, k)) = elim x [ inl w ↦ absurd (y w) | inr w ↦ absurd (z w) ]
@@ -147,8 +146,8 @@ module _ (p : Picture) (a : ℕ) where
   same_accept mask o n q r (inl (c, e, h, x, y)) (inl (b, f, k, u, w)) =
       let i = same_caller p a mask c e b f h k in let j = same_entry p a mask c e b f h k in
       (x ∙ sym u, y ∙ ((λ d. engage (leave_queue p (i d)) (i d) a (j d)) ∙ sym w))
-  same_accept mask o n q r (inl (c, e, h, _, _)) (inr (k, _, _)) = let i = h.head in let j = k e h.opened in absurd (clash (cc))
-  same_accept mask o n q r (inr (k, _, _)) (inl (c, e, h, _, _)) = let i = h.head in let j = k e h.opened in absurd (clash (cc))
+  same_accept mask o n q r (inl (c, e, h, _, _)) (inr (k, _, _)) = let i = h.head in let j = k e h.opened in absurd (cc)
+  same_accept mask o n q r (inr (k, _, _)) (inl (c, e, h, _, _)) = let i = h.head in let j = k e h.opened in absurd (cc)
   same_accept mask o n q r (inr (_, h, k)) (inr (_, l, m)) = (h ∙ sym l, k ∙ sym m)
 
   same_end : (o n : Outcome) (q r : Picture) → Does p a EndRendezvous o q → Does p a EndRendezvous n r → Same o n q r

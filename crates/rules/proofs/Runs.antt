@@ -1,9 +1,14 @@
 -- The runs of the table hold: their events are played, the pictures before and after the last one are judged, and the answers compared.
-use Rattle.std.proofs.Common.{◌≡◌, ℕ, zero, suc, ◌<◌, Bool, true, false, T, ◌⊎◌, ◌↔◌, List, [], ◌∷◌, sym, refl, ap, ◌∙◌, subst, inl, inr, arith}
+use Rattle.std.proofs.Common.{◌≡◌, ℕ, zero, suc, ◌<◌, Bool, true, false, T, ◌⊎◌, ◌↔◌, List, [], ◌∷◌, eqb, All, Contains, sym, refl, ap, ◌∙◌, subst, inl, inr}
 use native.Mathlib.Decide.{dec_lt, ℕ_discrete}
+use Rattle.std.specs.Cmp.{nat_eq_equiv}
+use Rattle.std.specs.List.{list_any}
+use Rattle.std.proofs.lemmas.Bool.{eqb-true}
+use Rattle.std.proofs.lemmas.List.Elements.{All-cons, All-contains, All-nil}
+use Rattle.std.proofs.lemmas.Map.Views.{Contains-from_any, list_any-from_Contains}
 use Rattle.rules.specs.Dead.{Dead}
 use Rattle.rules.specs.Events.{outcome_number}
-use Rattle.rules.specs.Picture.{fresh, Member, Picture, status}
+use Rattle.rules.specs.Picture.{fresh, Picture, status}
 use Rattle.rules.specs.Refusals.{Refused}
 use Rattle.rules.specs.Rules.{Accepted, more, none, Step, Steps}
 use Rattle.rules.specs.Runs.{AllHold, AllShown, Holds, Run, runs, RunsHold, Shown}
@@ -13,7 +18,7 @@ use Rattle.rules.specs.declared.vocabulary.Outcome.TheVariants.{GoesOn, Rendezvo
 use Rattle.refusals.specs.declared.Refusal.{Refusal}
 use Rattle.rules.specs.declared.vocabulary.Status.{Status}
 use Rattle.rules.proofs.Accepted.{accepted_or_refused}
-use Rattle.rules.proofs.Basics.Decide.{dec_both, dec_not, find, Found, sure}
+use Rattle.rules.proofs.Basics.Decide.{dec_both, dec_not, dec_true, find, Found, sure}
 use Rattle.rules.proofs.Basics.Statuses.{first_of, kind, second_of, status_back, status_of}
 use Rattle.rules.proofs.Invariant.Begin.{sound_fresh}
 use Rattle.rules.proofs.Invariant.Reached.{sound_step}
@@ -100,15 +105,9 @@ all_shown q [] = inl tt
 all_shown q (s ∷ ss) = elim (same_status (status q s.task) s.is) [ inr _ ↦ inr tt | inl e ↦ elim (all_shown q ss) [ inr _ ↦ inr tt | inl h ↦ inl (e, h) ] ]
 
 -- the names added are those listed
-unfoldable pub dec_member : (t : ℕ) (xs : List ℕ) → Dec (Member t xs)
-unfolding ℕ_discrete
-dec_member t [] = no (λ h. h)
-dec_member t (x ∷ xs) = go (ℕ_discrete t x) (dec_member t xs)
-  where
-    go : Dec (t ≡ x) → Dec (Member t xs) → Dec ((t ≡ x) ⊎ Member t xs)
-    go (yes e) _ = yes (inl e)
-    go (no n) (yes m) = yes (inr m)
-    go (no n) (no k) = no (λ h. elim h [ inl e ↦ n e | inr m ↦ k m ])
+unfoldable pub dec_contains : (xs : List ℕ) (t : ℕ) → Dec (Contains xs t)
+unfolding dec_true
+dec_contains xs t = dec_true (list_any (eqb t) xs) (Contains-from_any eqb-true t xs) (list_any-from_Contains nat_eq_equiv t xs)
 
 abbrev pub Agrees : Type 0 → Type 0 → Type 0
 Agrees A B = (A → B) × (B → A)
@@ -119,29 +118,29 @@ dec_agrees (no a) (no b) = yes ((λ x. absurd (a x)), (λ x. absurd (b x)))
 dec_agrees (yes a) (no b) = no (λ h. b (h.0 a))
 dec_agrees (no a) (yes b) = no (λ h. a (h.1 b))
 
-unfoldable pub all_below : (n : ℕ) (xs : List ℕ) → Maybe ((t : ℕ) → Member t xs → t < n)
+unfoldable pub all_below : (n : ℕ) (xs : List ℕ) → Maybe (All (λ t. t < n) xs)
 unfolding dec_lt
-all_below n [] = inl (λ t m. absurd m)
+all_below n [] = inl (All-nil (λ t. t < n))
 all_below n (x ∷ xs) = go (dec_lt x n) (all_below n xs)
   where
-    go : Dec (x < n) → Maybe ((t : ℕ) → Member t xs → t < n) → Maybe ((t : ℕ) → (t ≡ x) ⊎ Member t xs → t < n)
-    go (yes l) (inl f) = inl (λ t m. elim m [ inl e ↦ omega arith | inr k ↦ f t k ])
+    go : Dec (x < n) → Maybe (All (λ t. t < n) xs) → Maybe (All (λ t. t < n) (x ∷ xs))
+    go (yes l) (inl f) = inl (All-cons (λ t. t < n) x xs l f)
     go (yes l) (inr _) = inr tt
     go (no _) _ = inr tt
 
 abbrev pub Added : Picture → Picture → ℕ → Type 0
 Added p q t = Dead q t × (Dead p t → ⊥)
 
-unfoldable pub all_added : (p q : Picture) → Sound p → Sound q → (xs : List ℕ) → Maybe ((t : ℕ) → Member t xs ↔ Added p q t)
-unfolding all_below find dec_agrees dec_member dec_both dec_dead dec_not
-all_added p q j k xs = go (all_below q.begun xs) (find (λ t. Agrees (Member t xs) (Added p q t) → ⊥) (λ t. dec_not (dec t)) q.begun)
+unfoldable pub all_added : (p q : Picture) → Sound p → Sound q → (xs : List ℕ) → Maybe ((t : ℕ) → Contains xs t ↔ Added p q t)
+unfolding all_below find dec_agrees dec_contains dec_both dec_dead dec_not
+all_added p q j k xs = go (all_below q.begun xs) (find (λ t. Agrees (Contains xs t) (Added p q t) → ⊥) (λ t. dec_not (dec t)) q.begun)
   where
-    dec : (t : ℕ) → Dec (Agrees (Member t xs) (Added p q t))
-    dec t = dec_agrees (dec_member t xs) (dec_both (dec_dead q k t) (dec_not (dec_dead p j t)))
+    dec : (t : ℕ) → Dec (Agrees (Contains xs t) (Added p q t))
+    dec t = dec_agrees (dec_contains xs t) (dec_both (dec_dead q k t) (dec_not (dec_dead p j t)))
 
-    go : Maybe ((t : ℕ) → Member t xs → t < q.begun) → Found q.begun (λ t. Agrees (Member t xs) (Added p q t) → ⊥)
-        → Maybe ((t : ℕ) → Member t xs ↔ Added p q t)
-    go (inl b) (inr f) = inl (λ t. ((λ m. (sure (dec t) (f t (b t m))).0 m), (λ a. (sure (dec t) (f t a.0.begun)).1 a)))
+    go : Maybe (All (λ t. t < q.begun) xs) → Found q.begun (λ t. Agrees (Contains xs t) (Added p q t) → ⊥)
+        → Maybe ((t : ℕ) → Contains xs t ↔ Added p q t)
+    go (inl b) (inr f) = inl (λ t. ((λ m. (sure (dec t) (f t (All-contains (λ t. t < q.begun) xs t b m))).0 m), (λ a. (sure (dec t) (f t a.0.begun)).1 a)))
     go (inl b) (inl _) = inr tt
     go (inr _) _ = inr tt
 
@@ -151,7 +150,7 @@ unfolding play accepted_or_refused same_outcome all_added all_shown
 holds r = go (play fresh sound_fresh r.before)
   where
     last : (p : Picture) (plays : Steps fresh r.before p) (snd : Sound p) (o : Outcome) (q : Picture) (s : Step p r.last o q)
-        → Maybe (o ≡ r.outcome) → Maybe ((t : ℕ) → Member t r.added ↔ Added p q t) → Maybe (AllShown q r.shown) → Maybe (Holds r)
+        → Maybe (o ≡ r.outcome) → Maybe ((t : ℕ) → Contains r.added t ↔ Added p q t) → Maybe (AllShown q r.shown) → Maybe (Holds r)
     last p plays snd o q s (inl e) (inl a) (inl h) = inl (record {
       p = p;
       q = q;

@@ -1,11 +1,11 @@
 -- How pictures change: the pieces that the rules put together.
-use Rattle.std.specs.Prelude.{ℕ, suc, cond, not, ◌&&◌, List, [], ◌∷◌, ◌++◌, length, Some, None, Option, ◌==◌}
+use Rattle.std.specs.Prelude.{ℕ, suc, cond, not, ◌&&◌, List, [], ◌∷◌, ◌++◌, length, filter, Some, None, Option, ◌==◌}
 use Rattle.rules.specs.declared.vocabulary.Status.{Status}
 use Rattle.rules.specs.declared.vocabulary.Status.TheVariants.{Running, Queued, Engaged}
 use Rattle.rules.specs.declared.vocabulary.Frame.{Frame}
 use Rattle.rules.specs.declared.vocabulary.Frame.TheVariants.{Rendezvous}
 use Rattle.rules.specs.declared.vocabulary.Master.{Master}
-use Rattle.rules.specs.Picture.{Picture, Task, status, frames, at, innermost_block, keep, without, queued_at_server, under}
+use Rattle.rules.specs.Picture.{Picture, Task, status, frames, at, innermost_block, without, queued_at_server, under}
 
 -- the task with the status s
 abbrev pub with_status : Task → Status → Task
@@ -78,5 +78,5 @@ abbrev pub dismiss : Picture → ℕ → Picture
 dismiss p s = record {
   begun = p.begun;
   task = λ t. cond (queued_at_server s (status p t)) (with_status (p.task t) Running) (p.task t);
-  arrivals = keep (λ t. not (queued_at_server s (status p t))) p.arrivals;
+  arrivals = filter (λ t. not (queued_at_server s (status p t))) p.arrivals;
 }

@@ -1,5 +1,5 @@
 -- The picture: what is known of the tasks of one program.
-use Rattle.std.specs.Prelude.{◌≡◌, ℕ, suc, ◌<◌, Bool, false, cond, not, ◌&&◌, ◌⊎◌, List, [], ◌∷◌, length, Some, None, Option, ◌==◌, nat_eq}
+use Rattle.std.specs.Prelude.{◌≡◌, ℕ, suc, ◌<◌, Bool, false, cond, not, ◌&&◌, List, [], ◌∷◌, length, filter, Some, None, Option, ◌==◌, nat_eq}
 use Rattle.rules.specs.declared.vocabulary.Status.{Status}
 use Rattle.rules.specs.declared.vocabulary.Status.TheVariants.{NotBegun, Running, Queued, Engaged, Accepting, Leaving, Completed, Terminated}
 use Rattle.rules.specs.declared.vocabulary.Frame.{Frame}
@@ -71,19 +71,9 @@ rendezvous_level c [] = 0
 rendezvous_level c (Block ∷ fs) = rendezvous_level c fs
 rendezvous_level c (Rendezvous b _ ∷ fs) = cond (b == c) (suc (length fs)) (rendezvous_level c fs)
 
--- t is a member of the list
-abbrev pub Member : ℕ → List ℕ → Type 0
-Member t [] = ⊥
-Member t (x ∷ xs) = (t ≡ x) ⊎ Member t xs
-
--- the members of a list that pass a test, in their order
-abbrev pub keep : (ℕ → Bool) → List ℕ → List ℕ
-keep test [] = []
-keep test (x ∷ xs) = cond (test x) (x ∷ keep test xs) (keep test xs)
-
 -- the list without t
 abbrev pub without : ℕ → List ℕ → List ℕ
-without t = keep (λ x. not (x == t))
+without t = filter (λ x. not (x == t))
 
 -- whether a task of that status is queued at a server and an entry that pass a test
 abbrev pub queued_where : (ℕ → ℕ → Bool) → Status → Bool
@@ -106,4 +96,4 @@ queued_at_server s = queued_where (λ r _. nat_eq r s)
 
 -- the callers queued at entry e of s, in order of arrival
 abbrev pub queue : Picture → ℕ → ℕ → List ℕ
-queue p s e = keep (λ t. queued_at s e (status p t)) p.arrivals
+queue p s e = filter (λ t. queued_at s e (status p t)) p.arrivals

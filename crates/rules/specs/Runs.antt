@@ -1,12 +1,12 @@
 -- Worked runs: lists of events from a new picture, each with the answer to the last of them.
-use Rattle.std.specs.Prelude.{◌≡◌, ℕ, ◌↔◌, List, [], ◌∷◌}
+use Rattle.std.specs.Prelude.{◌≡◌, ℕ, ◌↔◌, List, [], ◌∷◌, Contains}
 use Rattle.rules.specs.declared.vocabulary.Status.{Status}
 use Rattle.rules.specs.declared.vocabulary.Status.TheVariants.{Running, Engaged, Terminated}
 use Rattle.rules.specs.declared.vocabulary.Action.TheVariants.{Begin, OpenBlock, LeaveBlock, Call, Accept, Finish}
 use Rattle.rules.specs.declared.vocabulary.Event.{Event}
 use Rattle.rules.specs.declared.vocabulary.Outcome.{Outcome}
 use Rattle.rules.specs.declared.vocabulary.Outcome.TheVariants.{Waits, Rendezvous as RendezvousBegun, TaskingError, Terminated as Ended}
-use Rattle.rules.specs.Picture.{Picture, status, Member, fresh}
+use Rattle.rules.specs.Picture.{Picture, status, fresh}
 use Rattle.rules.specs.Events.{◌does◌}
 use Rattle.rules.specs.Rules.{Step, Steps}
 use Rattle.rules.specs.Dead.{Dead}
@@ -35,7 +35,7 @@ pub record Holds (r : Run) : Type 0 where
   pub q : Picture
   pub plays : Steps fresh r.before p
   pub answers : Step p r.last r.outcome q
-  pub adds : (t : ℕ) → Member t r.added ↔ (Dead q t × (Dead p t → ⊥))
+  pub adds : (t : ℕ) → Contains r.added t ↔ (Dead q t × (Dead p t → ⊥))
   pub shows : AllShown q r.shown
 
 -- every row of the list holds

@@ -28,11 +28,13 @@ pub fn accepted_unless_refused()
 {}
 
 /// An accepted event has one outcome and makes one picture.
+#[tactic(auto, using(crate::proofs::OneResult::one_result))]
 pub fn one_outcome_and_one_picture()
     ensures { OneOutcomeAndOnePicture }
 {}
 
 /// Every run of the table has the outcome, the names and the statuses that its row states.
+#[tactic(auto, using(crate::proofs::Runs::runs_hold))]
 pub fn runs_hold()
     ensures { RunsHold }
 {}
@@ -43,11 +45,13 @@ pub fn limits_are_kept()
 {}
 
 /// Every picture has a largest shut set.
+#[tactic(auto, using(crate::proofs::Judging::Judge::largest_shut_sets_exist))]
 pub fn largest_shut_sets_exist()
     ensures { LargestShutSetsExist }
 {}
 
 /// What follows from a set of points follows from every larger one.
+#[tactic(auto, using(crate::proofs::Judging::Law::runs_law, crate::proofs::Judging::Law::ends_law))]
 pub fn book_keeps_the_law()
     ensures { BookKeepsTheLaw }
 {}

@@ -21,8 +21,9 @@ pub enum Status {
 }
 
 /// An open frame of a task.
-#[derive(Clone, Copy, Debug, PartialEq, Eq)]
+#[derive(Clone, Copy, Debug, Default, PartialEq, Eq)]
 pub enum Frame {
+    #[default]
     Block,
     Rendezvous { caller: u8, entry: u8 },
 }
@@ -57,14 +58,14 @@ pub struct Event {
 #[derive(Clone, Copy, Debug, PartialEq, Eq)]
 pub enum Outcome {
     /// It is Running, as before.
-    GoesOn,
+    GoesOn = 0,
     /// It waits.
-    Waits,
+    Waits = 1,
     /// A rendezvous has begun, with the actor as caller or as server.
-    Rendezvous,
+    Rendezvous = 2,
     /// It called a task that has finished: nothing has changed.
-    TaskingError,
-    Terminated,
+    TaskingError = 3,
+    Terminated = 4,
 }
 
 impl Outcome {
@@ -72,12 +73,6 @@ impl Outcome {
     pub fn number(self) -> u8
         ensures { result ≡ outcome_number self }
     {
-        match self {
-            Outcome::GoesOn => 0,
-            Outcome::Waits => 1,
-            Outcome::Rendezvous => 2,
-            Outcome::TaskingError => 3,
-            Outcome::Terminated => 4,
-        }
+        self as u8
     }
 }

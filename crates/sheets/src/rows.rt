@@ -1,5 +1,6 @@
 // The lines of a sheet, and the rows that they put in.
-ghost use Rattle.std.specs.Prelude.{◌≡◌, ℕ, Bool, true, false, ◌&&◌, List, Some, None, count_by};
+ghost use Rattle.std.specs.Prelude.{◌≡◌, ℕ, Bool, true, false, ◌&&◌, MatchResult, count_by};
+ghost use Rattle.refusals.specs.declared.Refusal.TheVariants.{ListedTwice};
 ghost use Rattle.books.specs.Points.{has};
 ghost use Rattle.books.specs.Shut.{size};
 ghost use Rattle.sheets.specs.Rows.{known, counted, AllParties, SomeOther, Once, Again, RowAnswer, LineAnswer, ToldApart};
@@ -24,10 +25,7 @@ impl Alphabet for SheetLetters {
     ghost comma = { Prim.search rules };
 
     fn knows(letter: char) -> bool {
-        match letter {
-            'W' => true,
-            _ => false,
-        }
+        letter == 'W'
     }
 
     fn counts(_letter: char, numbers: usize) -> bool {
@@ -39,26 +37,21 @@ impl Alphabet for SheetLetters {
 fn are_parties(listed: &[u16]) -> bool
     ensures { elim result [ true ↦ AllParties listed.now | false ↦ SomeOther listed.now ] }
 {
-    for q in listed {
-        if usize::from(*q) >= PARTIES {
-            return false;
-        }
-    }
-    true
+    listed.iter().all(|q| usize::from(*q) < PARTIES)
 }
 
 // The set of the parties listed, unless one is listed twice.
-fn gather(listed: &[u16]) -> Option<PointSet>
+fn gather(listed: &[u16]) -> Result<PointSet, Refusal>
     requires { AllParties listed.now }
-    ensures { elim result [ Some s ↦ Once listed.now × ((S : ℕ → Bool) → size 128 (λ q. has s q && S q) ≡ count_by S listed.now) | None ↦ Again listed.now ] }
+    ensures { MatchResult result (λ s. Once listed.now × ((S : ℕ → Bool) → size 128 (λ q. has s q && S q) ≡ count_by S listed.now)) (λ e. (e ≡ ListedTwice) × Again listed.now) }
 {
     let mut set = PointSet::empty();
     for q in listed {
         if !set.insert(usize::from(*q)) {
-            return None;
+            return Err(Refusal::ListedTwice);
         }
     }
-    Some(set)
+    Ok(set)
 }
 
 impl WaitSheet {
@@ -81,9 +74,7 @@ impl WaitSheet {
         if !are_parties(listed) {
             return Err(Refusal::UnknownListed);
         }
-        let Some(listed) = gather(listed) else {
-            return Err(Refusal::ListedTwice);
-        };
+        let listed = gather(listed)?;
         self.rows[party] = Some(Row { needs, listed });
         Ok(())
     }

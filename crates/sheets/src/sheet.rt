@@ -1,6 +1,7 @@
 // A wait sheet: for each of 96 parties, how many of which parties it waits for.
-ghost use Rattle.std.specs.Prelude.{◌≡◌, ℕ, Bool};
-ghost use Rattle.sheets.specs.Sheets.{follow, NoRows};
+ghost use Rattle.std.specs.Prelude.{◌≡◌, ℕ, Bool, Some};
+ghost use Rattle.books.specs.Points.{has};
+ghost use Rattle.sheets.specs.Sheets.{follow, row_follow, NoRows};
 ghost use Rattle.sheets.specs.Limits.{parties};
 ghost use Rattle.sheets.specs.Meaning.{follow_grows, follow_beyond};
 ghost use Rattle.std.proofs.Common.{rules};
@@ -17,6 +18,14 @@ pub(crate) struct Row {
     pub(crate) listed: PointSet,
 }
 
+impl Row {
+    fn is_met(&self, s: &PointSet) -> bool
+        ensures { result ≡ row_follow (Some self.now) (has s.now) }
+    {
+        self.needs <= self.listed.intersection(s).len()
+    }
+}
+
 // A party with no row always follows.
 #[derive(Drop)]
 pub struct WaitSheet {
@@ -26,7 +35,7 @@ pub struct WaitSheet {
 impl WaitBook for WaitSheet {
     const POINTS: usize = PARTIES;
 
-    ghost points = { parties };
+    ghost POINTS = { parties };
 
     ghost meaning = { follow };
 
@@ -36,18 +45,11 @@ impl WaitBook for WaitSheet {
 
     ghost beyond = { follow_beyond };
 
-    fn count() -> usize {
-        Self::POINTS
-    }
-
     fn follows(&self, p: usize, s: &PointSet) -> bool {
-        if p >= Self::POINTS {
-            return false;
-        }
-        let kept = self.rows[p];
-        match kept {
-            None => true,
-            Some(row) => row.needs <= row.listed.intersection(s).len(),
+        match self.rows.get(p) {
+            Some(Some(row)) => row.is_met(s),
+            Some(None) => true,
+            None => false,
         }
     }
 }

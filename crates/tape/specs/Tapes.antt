@@ -12,10 +12,14 @@ use Rattle.tape.specs.declared.tape.PlayRefusal.TheVariants.{LineRefused, TapeTo
 abbrev pub tape_room : ℕ
 tape_room = 65536
 
--- the number by which a refusal to play is reported
+-- the refusal as which a refusal to play is reported
+abbrev pub reported : PlayRefusal → Refusal
+reported (LineRefused told) = line_refused
+reported TapeTooLong = InputTooLong
+
+-- the number by which it is reported
 abbrev pub play_number : PlayRefusal → ℕ
-play_number (LineRefused told) = number_of line_refused
-play_number TapeTooLong = number_of InputTooLong
+play_number refusal = number_of (reported refusal)
 
 module _ {S : Type 0} (steps : S → List ℕ → Result S Refusal → Type 0) where
   -- a line was told to s, with the answer r, and left t; a refused line leaves s

@@ -1,9 +1,9 @@
 // Playing a tape to whatever is told its lines.
 ghost use Rattle.std.specs.Prelude.{◌≡◌, ℕ, ◌+◌, ◌≤◌, List, length, Result};
 ghost use Rattle.refusals.specs.declared.Refusal.{Refusal as Cause};
-ghost use Rattle.tape.specs.Tapes.{Told, Played, play_number};
+ghost use Rattle.tape.specs.Tapes.{Told, Played, reported, play_number};
 
-use lines::next_line;
+use lines::lines;
 use refusals::Refusal;
 
 // The most bytes that a tape may have.
@@ -31,9 +31,17 @@ impl PlayRefusal {
     pub fn number(self) -> u8
         ensures { result ≡ play_number self }
     {
-        match self {
-            PlayRefusal::LineRefused { .. } => Refusal::LineRefused.number(),
-            PlayRefusal::TapeTooLong => Refusal::InputTooLong.number(),
+        Refusal::from(self).number()
+    }
+}
+
+impl From<PlayRefusal> for Refusal {
+    ghost from_gives = { λ refusal r. r ≡ reported refusal };
+
+    fn from(refusal: PlayRefusal) -> Self {
+        match refusal {
+            PlayRefusal::LineRefused { .. } => Refusal::LineRefused,
+            PlayRefusal::TapeTooLong => Refusal::InputTooLong,
         }
     }
 }
@@ -45,14 +53,13 @@ pub fn play<T: Teller>(teller: &mut T, tape: &[u8]) -> Result<usize, PlayRefusal
     if tape.len() > TAPE_ROOM {
         return Err(PlayRefusal::TapeTooLong);
     }
-    let mut rest = tape;
+    // Counted by hand, since it is asked at the end as well.
     let mut told = 0;
-    while let Some((line, after)) = next_line(rest) {
-        if let Err(_) = teller.tell_line(line) {
-            return Err(PlayRefusal::LineRefused { told });
-        }
+    for line in lines(tape) {
+        teller
+            .tell_line(line)
+            .map_err(|_| PlayRefusal::LineRefused { told })?;
         told += 1;
-        rest = after;
     }
     Ok(told)
 }

@@ -1,8 +1,7 @@
 // Plays every stored tape, in the order of their names, and prints the name and the report of each.
 #![tactic(auto)]
 
-use monitor::report_of_tape;
-use std::io::Write;
+use console::print_report;
 use std::{fs, io};
 
 // The names of the tapes that lie beside the program.
@@ -25,14 +24,7 @@ fn main(rt: HostRuntime) -> io::Result<()> {
         println!(rt; "{name}")?;
         let path = format!(in heap; "{name}.tape")?;
         let tape = fs::read(&rt, path.as_str())?;
-        let mut page = [0; 1024];
-        match report_of_tape(&tape, &mut page) {
-            Ok(length) => rt.stdout().write_all(&page[0..length])?,
-            Err(refusal) => {
-                let number = refusal.number();
-                println!(rt; "X,{number}")?;
-            }
-        }
+        print_report(&mut rt.stdout(), &tape)?;
     }
     Ok(())
 }

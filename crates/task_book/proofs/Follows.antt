@@ -2,7 +2,8 @@
 use Rattle.std.proofs.Common.{◌≡◌, ℕ, ◌/◌, ◌%◌, ◌<◌, ◌≤◌, Bool, true, false, not, ◌&&◌, ◌||◌, ltb, ◌≢◌, Decides, sym, refl, ap, ◌∙◌, inl, inr}
 use Rattle.std.proofs.lemmas.Bool.{and_from, and_left, and_parts, both_ways, cases_eq, le-ltb, lt-ltb, ltb-true}
 use Rattle.std.proofs.lemmas.Bool.Decides.{Decides-below_and, Decides-like, same_from_decides}
-use Rattle.books.specs.Points.{bit}
+use Rattle.books.specs.declared.members.Members.{Members}
+use Rattle.books.specs.Points.{member}
 use Rattle.rules.specs.Book.{phase}
 use Rattle.rules.specs.Limits.{most_tasks}
 use Rattle.rules.specs.Picture.{Picture, status}
@@ -15,19 +16,19 @@ decides_implied true y = (λ e _. e, λ f. f refl)
 decides_implied false y = (λ _ e. absurd (both_ways false refl e), λ _. refl)
 
 -- all tasks that are marked can end
-module _ (word n : ℕ) (test S : ℕ → Bool) (marks : Marks word n test) where
+module _ (set : Members) (n : ℕ) (test S : ℕ → Bool) (marks : Marks set n test) where
   -- whether a task, if it passes, can end
   abbrev passes_end : ℕ → Bool
   passes_end d = not (test d) || ends S d
 
-  decides_marked : Decides (all_below passes_end n) ((t : ℕ) → bit word t ≡ true → ends S t ≡ true)
+  decides_marked : Decides (all_below passes_end n) ((t : ℕ) → member set t ≡ true → ends S t ≡ true)
   unfolding all_below
   decides_marked = Decides-like (all_below passes_end n)
       (λ f t e. let h = and_parts (ltb t n) (test t) (sym (marks t) ∙ e) in f t (ltb-true t n h.0) h.1)
       (λ f t b e. f t (marks t ∙ and_from (ltb t n) (test t) (lt-ltb t n b) e))
       (Decides-below_and passes_end (λ d. test d ≡ true → ends S d ≡ true) (all_below passes_end) (λ d. decides_implied (test d) (ends S d)) refl (λ _. refl) n)
 
-  pub all_marked : (r : Bool) → Decides r ((t : ℕ) → bit word t ≡ true → ends S t ≡ true) → r ≡ all_below passes_end n
+  pub all_marked : (r : Bool) → Decides r ((t : ℕ) → member set t ≡ true → ends S t ≡ true) → r ≡ all_below passes_end n
   all_marked r d = same_from_decides r (all_below passes_end n) d decides_marked
 
 -- some task other than t can run

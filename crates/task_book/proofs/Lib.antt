@@ -1,4 +1,4 @@
--- The proofs: what the book decides, the bridge to the rules' largest shut set, sets of tasks in a word, what the code
+-- The proofs: what the book decides, the bridge to the rules' largest shut set, sets of tasks, what the code
 -- answers, and the names.
 pub mod Counted
 pub mod Plainly

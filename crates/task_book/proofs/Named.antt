@@ -1,15 +1,14 @@
--- The tasks named by a word, and that they are the dead where a judging has just been made.
+-- The tasks named by a set, and that they are the dead where a judging has just been made.
 use Rattle.std.proofs.Common.{◌≡◌, ℕ, ◌<◌, ◌≤◌, Bool, false, not, ◌&&◌, ◌||◌, ltb, leb, ◌↔◌, Decides, refl, ◌∙◌, arith}
 use mathlib.Core.HLevel.{¬_prop, →_prop, ×_prop}
 use mathlib.Core.Logic.{∥∥₁_elim}
 use native.Mathlib.Bridge.{le_prop}
-use lib.Bits.{bit_and}
 use lib.Dec.{T_prop}
 use Rattle.std.proofs.lemmas.Bool.{both_ways}
 use Rattle.std.proofs.lemmas.Bool.Decides.{Decides-and, Decides-at, Decides-like, Decides-ltb, Decides-not}
-use Rattle.books.specs.Points.{bit}
+use Rattle.books.specs.declared.members.Members.{Members}
+use Rattle.books.specs.Points.{member}
 use Rattle.books.specs.Shut.{LargestShut}
-use Rattle.books.proofs.Binary.{and_bit}
 use Rattle.rules.specs.declared.vocabulary.Status.{Status}
 use Rattle.rules.specs.declared.vocabulary.Status.TheVariants.{NotBegun, Running, Queued, Engaged, Accepting, Leaving, Completed, Terminated}
 use Rattle.rules.specs.Book.{Named}
@@ -17,7 +16,6 @@ use Rattle.rules.specs.Dead.{Dead}
 use Rattle.rules.specs.Limits.{most_tasks}
 use Rattle.rules.specs.Picture.{Picture, status}
 use Rattle.rules.specs.Rules.{Reached}
-use Rattle.rules.proofs.Basics.Statuses.{clash}
 use Rattle.rules.proofs.Invariant.Reached.{reached_sound}
 use Rattle.rules.proofs.NamedStayDead.Names.{names_dead}
 use Rattle.rules.proofs.WaysOut.Drain.{dead_named}
@@ -28,16 +26,16 @@ use Rattle.task_book.specs.Bridge.{in_left, left_in, left_largest}
 use Rattle.task_book.specs.Decides.{decides_T}
 
 decides_terminated : (k : Status) → Decides (ended_status k) (k ≡ Terminated)
-decides_terminated NotBegun = (λ e. absurd (both_ways false refl e), λ e. absurd (clash (cc)))
-decides_terminated Running = (λ e. absurd (both_ways false refl e), λ e. absurd (clash (cc)))
-decides_terminated (Queued _ _) = (λ e. absurd (both_ways false refl e), λ e. absurd (clash (cc)))
-decides_terminated (Engaged _) = (λ e. absurd (both_ways false refl e), λ e. absurd (clash (cc)))
-decides_terminated (Accepting _) = (λ e. absurd (both_ways false refl e), λ e. absurd (clash (cc)))
-decides_terminated Leaving = (λ e. absurd (both_ways false refl e), λ e. absurd (clash (cc)))
-decides_terminated Completed = (λ e. absurd (both_ways false refl e), λ e. absurd (clash (cc)))
+decides_terminated NotBegun = (λ e. absurd (both_ways false refl e), λ e. absurd (cc))
+decides_terminated Running = (λ e. absurd (both_ways false refl e), λ e. absurd (cc))
+decides_terminated (Queued _ _) = (λ e. absurd (both_ways false refl e), λ e. absurd (cc))
+decides_terminated (Engaged _) = (λ e. absurd (both_ways false refl e), λ e. absurd (cc))
+decides_terminated (Accepting _) = (λ e. absurd (both_ways false refl e), λ e. absurd (cc))
+decides_terminated Leaving = (λ e. absurd (both_ways false refl e), λ e. absurd (cc))
+decides_terminated Completed = (λ e. absurd (both_ways false refl e), λ e. absurd (cc))
 decides_terminated Terminated = (λ _. refl, λ _. refl)
 
--- a word of the tasks that are not Terminated, and one of those with both points left out
+-- a set of the tasks that are not Terminated, and one of those with both points left out
 module _ (p : Picture) (L : ℕ → Bool) (few : p.begun ≤ most_tasks) where
   abbrev waiting : ℕ → Bool
   waiting t = not (ended_status (status p t))
@@ -51,8 +49,9 @@ module _ (p : Picture) (L : ℕ → Bool) (few : p.begun ≤ most_tasks) where
       (Decides-and _ _ (Decides-ltb t p.begun) (Decides-not _ (decides_terminated (status p t))))
       (Decides-and _ _ (decides_T (runs L t)) (decides_T (ends L t))))
 
-  pub holds_named : (a b : ℕ) → Marks a p.begun waiting → ((t : ℕ) → bit b t ≡ (runs L t && ends L t)) → HoldsNamed (bit_and a b) p (left_out L)
-  holds_named a b begun pairs t = Decides-at _ _ (and_bit a b t ∙ (λ i. begun t i && pairs t i)) (decides_named t)
+  pub holds_named : (a b both : Members) → Marks a p.begun waiting → ((t : ℕ) → member b t ≡ (runs L t && ends L t))
+      → ((t : ℕ) → member both t ≡ (member a t && member b t)) → HoldsNamed both p (left_out L)
+  holds_named a b both begun pairs is t = Decides-at _ _ (is t ∙ (λ i. begun t i && pairs t i)) (decides_named t)
 
 -- names and death are facts with one proof, so that a reached picture is enough
 named_prop : (p : Picture) (L : ℕ → Bool) (t : ℕ) → IsProp (Named p (left_out L) t)
@@ -77,7 +76,7 @@ names_exact p L reached left t = ∥∥₁_elim reached (×_prop (→_prop (dead
     let largest = left_largest p L sound.few left in
     (names_dead sound largest t, dead_named sound (left_out L) largest t))
 
-pub named_dead : (p : Picture) (L : ℕ → Bool) (word : ℕ) → ∥ (Reached p) ∥₁ → LargestShut 128 (meaning_of p) L → HoldsNamed word p (left_out L) → HoldsDead word p
-named_dead p L word reached left names t =
+pub named_dead : (p : Picture) (L : ℕ → Bool) (set : Members) → ∥ (Reached p) ∥₁ → LargestShut 128 (meaning_of p) L → HoldsNamed set p (left_out L) → HoldsDead set p
+named_dead p L set reached left names t =
     let exact = names_exact p L reached left t in
     (λ e. exact.0 ((names t).0 e), λ d. (names t).1 (exact.1 d))

@@ -1,5 +1,7 @@
 -- Tasks that plainly are able.
-use Rattle.std.proofs.Common.{◌≡◌, ℕ, T, ◌≢◌, sym, ◌∙◌, subst, arith}
+use Rattle.std.proofs.Common.{◌≡◌, ℕ, ◌<◌, Bool, true, false, MatchBool, T, ◌≢◌, sym, ◌∙◌, subst, arith, length, get_or}
+use Rattle.std.specs.List.{AllWithin, HoldsAt, range_with_len}
+use Rattle.std.proofs.lemmas.List.FromFn.{get_or-range_with_len, length-range_with_len}
 use mathlib.Core.Logic.{∥∥₁_elim}
 use lib.Dec.{not_T}
 use Rattle.rules.specs.declared.vocabulary.Status.{Status}
@@ -7,7 +9,6 @@ use Rattle.rules.specs.declared.vocabulary.Status.TheVariants.{NotBegun, Running
 use Rattle.rules.specs.Book.{Able, CanRunWith, outside, Points, Shut}
 use Rattle.rules.specs.Picture.{Picture, status}
 use Rattle.rules.specs.Rules.{Reached}
-use Rattle.rules.proofs.Basics.Statuses.{clash}
 use Rattle.rules.proofs.Invariant.Reached.{reached_sound}
 use Rattle.rules.proofs.Invariant.Sound.{begun_of, Sound}
 
@@ -20,16 +21,16 @@ module _ {p : Picture} (sound : Sound p) where
   able_outside t able s h = not_T (s.runs t) (able s h)
 
   running : (t : ℕ) → status p t ≡ Running → Able p t
-  running t e = able_by t Running e (λ z. clash (cc)) (λ s h. tt)
+  running t e = able_by t Running e (λ z. cc) (λ s h. tt)
 
   queued : (t r f : ℕ) → status p t ≡ Queued r f → Able p r → Able p t
-  queued t r f e able = able_by t (Queued r f) e (λ z. clash (cc)) (able_outside r able)
+  queued t r f e able = able_by t (Queued r f) e (λ z. cc) (able_outside r able)
 
   accepting : (t m u : ℕ) → status p t ≡ Accepting m → status p u ≡ Running → Able p t
-  accepting t m u e runs = able_by t (Accepting m) e (λ z. clash (cc)) (λ s h.
-      let b = begun_of sound u (λ z. clash (cc)) in
+  accepting t m u e runs = able_by t (Accepting m) e (λ z. cc) (λ s h.
+      let b = begun_of sound u (λ z. cc) in
       let few = sound.few in
-      (u, omega arith, (λ i. let j : status p t ≡ Running = subst (λ x. status p x ≡ Running) i runs in clash (cc)), able_outside u (running u runs) s h))
+      (u, omega arith, (λ i. let j : status p t ≡ Running = subst (λ x. status p x ≡ Running) i runs in cc), able_outside u (running u runs) s h))
 
 -- that a task is able holds in one way only, so that a reached picture is enough
 from_reached : (p : Picture) (t : ℕ) → ∥ (Reached p) ∥₁ → (Sound p → Able p t) → Able p t
@@ -44,3 +45,11 @@ module _ (p : Picture) (reached : ∥ (Reached p) ∥₁) where
 
   pub accepting_able : (t m u : ℕ) → status p t ≡ Accepting m → status p u ≡ Running → Able p t
   accepting_able t m u e runs = from_reached p t reached (λ k. accepting k t m u e runs)
+
+-- some task runs, or none of the first n
+pub some_runs : (p : Picture) (n : ℕ) (r : Bool)
+    → MatchBool r ((k : ℕ) × (k < length (range_with_len 0 n)) × HoldsAt (λ u. status p u ≡ Running) (range_with_len 0 n) k)
+    (AllWithin (λ u. status p u ≡ Running → ⊥) (range_with_len 0 n) 0 (length (range_with_len 0 n)))
+    → MatchBool r ((u : ℕ) × (status p u ≡ Running)) ((u : ℕ) → u < n → status p u ≢ Running)
+some_runs p n true (k, l, h) = (get_or (range_with_len 0 n) k 0, h 0)
+some_runs p n false none = λ u l. subst (λ x. status p x ≢ Running) (get_or-range_with_len 0 n u 0 l ∙ omega arith) (none u 0 (omega arith) (subst (λ m. u < m) (sym (length-range_with_len 0 n)) l))

@@ -12,7 +12,6 @@ use Rattle.rules.specs.Book.Phase.{unbegun, under_way, has_completed, has_termin
 use Rattle.rules.specs.Limits.{most_tasks}
 use Rattle.rules.specs.Picture.{frames, Picture, rendezvous_level, status, under}
 use Rattle.rules.proofs.Basics.Masters.{same_master}
-use Rattle.rules.proofs.Basics.Statuses.{clash}
 use Rattle.task_book.specs.Meaning.{all_below, any_level, can_end, can_run, depends, dependents_end, ends, ends_in, innermost, inside_rendezvous, meaning_of, other_runs, points, runs, runs_with, some_below}
 
 pub decides_T : (b : Bool) → Decides b (T b)
@@ -27,7 +26,7 @@ decides_never = (λ e. both_ways false refl e, λ h. absurd h)
 
 module _ (m : ℕ) (level : ℕ → Bool) (levels : ℕ → Type 0) (each : (l : ℕ) → Decides (level l) (levels l)) where
   pub decides_depends : (o : Option Master) → Decides (depends m level o) ((l : ℕ) × levels l × (o ≡ under m l))
-  decides_depends None = (λ e. absurd (both_ways false refl e), λ h. absurd (let e = h.2 in clash (cc)))
+  decides_depends None = (λ e. absurd (both_ways false refl e), λ h. absurd (let e = h.2 in cc))
   decides_depends (Some k) = (
     λ e. let h = and_parts (k.creator == m) (level k.level) e in
         (k.level, (each k.level).0 h.1, λ i. under (eqb-true k.creator m h.0 i) k.level),

@@ -2,7 +2,6 @@ pub mod Book
 pub mod Levels
 pub mod Masks
 pub mod Meaning
-pub mod NameSet
 pub mod Names
 pub mod Theorems
 pub mod Unfinished

@@ -1,6 +1,7 @@
 -- The names that a judging of the task book leaves.
 use Rattle.std.specs.Prelude.{◌≡◌, ℕ, Bool, true, false, ◌||◌, ◌↔◌, nat_le}
-use Rattle.books.specs.Points.{bit}
+use Rattle.books.specs.declared.members.Members.{Members}
+use Rattle.books.specs.Points.{member}
 use Rattle.rules.specs.declared.vocabulary.Status.{Status}
 use Rattle.rules.specs.declared.vocabulary.Status.TheVariants.{NotBegun, Running, Queued, Engaged, Accepting, Leaving, Completed, Terminated}
 use Rattle.rules.specs.Book.{Named, Points}
@@ -24,10 +25,10 @@ ended_status Leaving = false
 ended_status Completed = false
 ended_status Terminated = true
 
--- the tasks in a word, bit t being task t, are those that are named, s being the points left out
-abbrev pub HoldsNamed : ℕ → Picture → Points → Type 0
-HoldsNamed word p s = (t : ℕ) → (bit word t ≡ true) ↔ Named p s t
+-- the tasks in a set are those that are named, s being the points left out
+abbrev pub HoldsNamed : Members → Picture → Points → Type 0
+HoldsNamed names p s = (t : ℕ) → (member names t ≡ true) ↔ Named p s t
 
--- the tasks in a word are the dead
-abbrev pub HoldsDead : ℕ → Picture → Type 0
-HoldsDead word p = (t : ℕ) → (bit word t ≡ true) ↔ Dead p t
+-- the tasks in a set are the dead
+abbrev pub HoldsDead : Members → Picture → Type 0
+HoldsDead names p = (t : ℕ) → (member names t ≡ true) ↔ Dead p t

@@ -17,12 +17,7 @@ impl TaskBook {
     fn some_task_runs(&self) -> bool
         ensures { MatchBool result ((u : ℕ) × (status (picture_of self.now) u ≡ Running)) ((u : ℕ) → u < (picture_of self.now).begun → status (picture_of self.now) u ≢ Running) }
     {
-        for u in 0..self.picture.begun() {
-            if let Status::Running = self.picture.status(u16::from(u)) {
-                return true;
-            }
-        }
-        false
+        (0..self.picture.begun()).any(|u| self.picture.status(u16::from(u)) == Status::Running)
     }
 
     /// Whether the task plainly is able: it runs, or it is queued, directly or through further queues, at a task that runs or
@@ -48,9 +43,7 @@ impl TaskBook {
         ensures { result ≡ false → Harmless (picture_of self.now) event outcome }
     {
         match outcome {
-            Outcome::GoesOn => false,
-            Outcome::Rendezvous => false,
-            Outcome::TaskingError => false,
+            Outcome::GoesOn | Outcome::Rendezvous | Outcome::TaskingError => false,
             Outcome::Terminated => true,
             Outcome::Waits => match event.action {
                 Action::Finish => true,

@@ -5,13 +5,12 @@ ghost use Rattle.rules.specs.Book.{phase};
 ghost use Rattle.rules.specs.Picture.{status};
 ghost use Rattle.task_book.specs.Book.{meaning_in, picture_of};
 ghost use Rattle.task_book.specs.Levels.{level_in};
-ghost use Rattle.task_book.specs.Masks.{Marks};
-ghost use Rattle.task_book.specs.Meaning.{depends, dependents_end, ends_in, innermost, inside_rendezvous, runs_with};
+ghost use Rattle.task_book.specs.Meaning.{dependents_end, ends_in, innermost, inside_rendezvous, runs_with};
 ghost use Rattle.task_book.specs.Bridge;
 ghost use Rattle.tasks.proofs.Reach.{few_begun};
 ghost use Rattle.std.proofs.Common.{rules};
 
-use crate::levels::{Levels, is_dependent};
+use crate::levels::{Dependents, Levels};
 use books::{PointSet, WaitBook};
 use rules::Status;
 use tasks::Picture;
@@ -30,24 +29,11 @@ fn runs(s: &PointSet, t: u8) -> bool
 }
 
 impl TaskBook {
-    /// The dependents of the creator at those levels, as a word: bit d is task d.
-    pub(crate) fn dependents(&self, creator: u8, levels: Levels) -> u64
-        ensures { Marks result (picture_of self.now).begun (λ d. depends creator (level_in levels) ((picture_of self.now).task d).master) }
+    /// Whether each of those dependents can end.
+    fn dependents_end(&self, which: Dependents, s: &PointSet) -> bool
+        ensures { result ≡ dependents_end (picture_of self.now) (has s.now) which.creator (level_in which.levels) }
     {
-        let mut tasks = 0u64;
-        for d in 0..self.picture.begun() {
-            if is_dependent(self.picture.master(d), creator, levels) {
-                tasks |= 1 << d;
-            }
-        }
-        tasks
-    }
-
-    /// Whether every dependent of the creator at those levels can end.
-    fn dependents_end(&self, creator: u8, levels: Levels, s: &PointSet) -> bool
-        ensures { result ≡ dependents_end (picture_of self.now) (has s.now) creator (level_in levels) }
-    {
-        s.has_all_odd(self.dependents(creator, levels))
+        s.has_all_odd(self.dependents(which))
     }
 
     /// Whether every dependent of each block that the server opened inside its rendezvous with the caller can end.
@@ -55,7 +41,7 @@ impl TaskBook {
         ensures { result ≡ dependents_end (picture_of self.now) (has s.now) server (inside_rendezvous (picture_of self.now) server caller) }
     {
         let rendezvous = self.picture.rendezvous_level(server, caller);
-        self.dependents_end(server, Levels::Above(rendezvous), s)
+        self.dependents_end(Levels::Above(rendezvous).of(server), s)
     }
 
     /// Whether every dependent of the innermost block of task t can end.
@@ -63,7 +49,7 @@ impl TaskBook {
         ensures { result ≡ dependents_end (picture_of self.now) (has s.now) t (innermost (picture_of self.now) t) }
     {
         let block = self.picture.open_frames(t);
-        self.dependents_end(t, Levels::At(block), s)
+        self.dependents_end(Levels::At(block).of(t), s)
     }
 
     /// Whether task t, which has begun, can run.
@@ -76,9 +62,7 @@ impl TaskBook {
             Status::Engaged { server } => runs(s, server) && self.blocks_inside_end(server, t, s),
             Status::Accepting { .. } => s.any_even_besides(usize::from(t)),
             Status::Leaving => self.innermost_block_ends(t, s),
-            Status::NotBegun => false,
-            Status::Completed => false,
-            Status::Terminated => false,
+            Status::NotBegun | Status::Completed | Status::Terminated => false,
         }
     }
 
@@ -88,9 +72,9 @@ impl TaskBook {
     {
         match self.picture.status(u16::from(t)) {
             Status::NotBegun => false,
-            Status::Completed => self.dependents_end(t, Levels::Every, s),
+            Status::Completed => self.dependents_end(Levels::Every.of(t), s),
             Status::Terminated => true,
-            _ => runs(s, t) && self.dependents_end(t, Levels::Every, s),
+            _ => runs(s, t) && self.dependents_end(Levels::Every.of(t), s),
         }
     }
 }
@@ -99,7 +83,7 @@ impl WaitBook for TaskBook {
     // Two for each of 64 tasks.
     const POINTS: usize = 128;
 
-    ghost points = { 128 };
+    ghost POINTS = { 128 };
 
     ghost meaning = { meaning_in };
 
@@ -108,10 +92,6 @@ impl WaitBook for TaskBook {
     ghost grows = { λ b. Bridge.grows (picture_of b) };
 
     ghost beyond = { λ b p S. Bridge.beyond (picture_of b) p S (few_begun b.picture.reached) };
-
-    fn count() -> usize {
-        Self::POINTS
-    }
 
     fn follows(&self, p: usize, s: &PointSet) -> bool {
         let t = p / 2;

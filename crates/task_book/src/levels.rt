@@ -1,11 +1,10 @@
 // Dependents of a task, by the level of the block that they depend on.
 ghost use Rattle.std.specs.Prelude.{◌≡◌};
-ghost use Rattle.task_book.specs.Levels.{level_in};
-ghost use Rattle.task_book.specs.Meaning.{depends};
+ghost use Rattle.task_book.specs.Levels.{level_in, among};
 
 use rules::Master;
 
-/// Which levels of a task's open frames are asked about.
+/// Which levels of a task's open frames are asked about. No closure, since clauses name what it says of a level.
 #[derive(Clone, Copy)]
 pub(crate) enum Levels {
     /// The body, and each block.
@@ -16,8 +15,26 @@ pub(crate) enum Levels {
     At(u8),
 }
 
+/// The dependents of a creator at some levels of its open frames.
+#[derive(Clone, Copy)]
+pub(crate) struct Dependents {
+    creator: u8,
+    levels: Levels,
+}
+
 impl Levels {
-    pub(crate) fn contain(self, level: u8) -> bool
+    /// The creator's dependents at these levels.
+    pub(crate) fn of(self, creator: u8) -> Dependents
+        ensures creator { result.creator ≡ creator }
+        ensures levels { result.levels ≡ self }
+    {
+        Dependents {
+            creator,
+            levels: self,
+        }
+    }
+
+    fn contain(self, level: u8) -> bool
         ensures { result ≡ level_in self level }
     {
         match self {
@@ -28,12 +45,11 @@ impl Levels {
     }
 }
 
-/// Whether a task with that master is a dependent of the creator at one of the levels.
-pub(crate) fn is_dependent(master: Option<Master>, creator: u8, levels: Levels) -> bool
-    ensures { result ≡ depends creator (level_in levels) master }
-{
-    match master {
-        Some(m) => m.creator == creator && levels.contain(m.level),
-        None => false,
+impl Dependents {
+    /// Whether a task with that master is one of them.
+    pub(crate) fn include(self, master: Option<Master>) -> bool
+        ensures { result ≡ among self master }
+    {
+        master.is_some_and(|m| m.creator == self.creator && self.levels.contain(m.level))
     }
 }

@@ -5,6 +5,7 @@ mod able;
 mod book;
 mod levels;
 mod names;
+mod sets;
 mod theorems;
 mod unfinished;
 mod watch;

@@ -6,15 +6,15 @@ ghost use Rattle.task_book.specs.Meaning.{any_level, innermost};
 ghost use Rattle.task_book.specs.Unfinished.{unfinished};
 
 use crate::book::TaskBook;
-use crate::levels::Levels;
+use crate::levels::{Dependents, Levels};
 
 impl TaskBook {
-    /// How many dependents of the creator at those levels are not Terminated.
-    fn unfinished(&self, creator: u8, levels: Levels) -> u8
-        ensures { result ≡ unfinished (picture_of self.now) creator (level_in levels) }
+    /// How many of those dependents are not Terminated.
+    fn unfinished(&self, which: Dependents) -> u8
+        ensures { result ≡ unfinished (picture_of self.now) which.creator (level_in which.levels) }
     {
-        let tasks = self.dependents(creator, levels) & self.not_terminated();
-        tasks.count_ones() as u8
+        let tasks = self.dependents(which).intersection(self.not_terminated());
+        tasks.len() as u8
     }
 
     /// How many dependents of the task's innermost block are not Terminated.
@@ -22,13 +22,13 @@ impl TaskBook {
         ensures { result ≡ unfinished (picture_of self.now) task (innermost (picture_of self.now) task) }
     {
         let block = self.picture.open_frames(task);
-        self.unfinished(task, Levels::At(block))
+        self.unfinished(Levels::At(block).of(task))
     }
 
     /// How many dependents of the task are not Terminated.
     pub fn unfinished_in_all(&self, task: u8) -> u8
         ensures { result ≡ unfinished (picture_of self.now) task any_level }
     {
-        self.unfinished(task, Levels::Every)
+        self.unfinished(Levels::Every.of(task))
     }
 }

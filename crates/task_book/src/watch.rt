@@ -1,47 +1,24 @@
 // The names that judging the task book leaves.
-ghost use Rattle.std.specs.Prelude.{◌≡◌, not};
+ghost use Rattle.std.specs.Prelude.{◌≡◌};
 ghost use Rattle.books.specs.Points.{has};
-ghost use Rattle.rules.specs.Picture.{status};
 ghost use Rattle.tasks.specs.Telling.{Told};
 ghost use Rattle.task_book.specs.Book.{picture_of};
-ghost use Rattle.task_book.specs.Masks.{Marks};
-ghost use Rattle.task_book.specs.Names.{HoldsDead, HoldsNamed, ended_status, left_out};
+ghost use Rattle.task_book.specs.Names.{HoldsDead, HoldsNamed, left_out};
 
 use crate::book::TaskBook;
+use crate::names::NameSet;
 use books::{PointSet, Watch};
 use refusals::Refusal;
-use rules::{Event, Outcome, Status};
+use rules::{Event, Outcome};
 use tasks::Picture;
 
-fn is_terminated(status: Status) -> bool
-    ensures { result ≡ ended_status status }
-{
-    match status {
-        Status::Terminated => true,
-        _ => false,
-    }
-}
-
 impl TaskBook {
-    /// The tasks that have begun and are not Terminated, as a word: bit t is task t.
-    pub(crate) fn not_terminated(&self) -> u64
-        ensures { Marks result (picture_of self.now).begun (λ t. not (ended_status (status (picture_of self.now) t))) }
-    {
-        let mut tasks = 0u64;
-        for t in 0..self.picture.begun() {
-            if !is_terminated(self.picture.status(u16::from(t))) {
-                tasks |= 1 << t;
-            }
-        }
-        tasks
-    }
-
-    /// The tasks named where those points are left out, as a word: bit t is task t. A task is named if it has begun, is not
-    /// Terminated, and both its points are left out.
-    pub fn names(&self, out: &PointSet) -> u64
+    /// The tasks named where those points are left out. A task is named if it has begun, is not Terminated, and both its
+    /// points are left out.
+    pub fn names(&self, out: &PointSet) -> NameSet
         ensures { HoldsNamed result (picture_of self.now) (left_out (has out.now)) }
     {
-        self.not_terminated() & out.pairs()
+        self.not_terminated().intersection(out.pairs())
     }
 }
 
@@ -68,15 +45,15 @@ impl TaskWatch {
         self.watch.book.picture.tell(event)
     }
 
-    /// The tasks named by the last judging, of the picture as it is now: bit t is task t.
-    pub fn names(&self) -> u64
+    /// The tasks named by the last judging, of the picture as it is now.
+    pub fn names(&self) -> NameSet
         ensures { HoldsNamed result (picture_of self.now.watch.book) (left_out (has self.now.watch.out)) }
     {
         self.watch.book.names(&self.watch.left_out())
     }
 
-    /// Judges the picture as it is now, and answers the tasks named, which are exactly the dead: bit t is task t.
-    pub fn judge(&mut self) -> u64
+    /// Judges the picture as it is now, and answers the tasks named, which are exactly the dead.
+    pub fn judge(&mut self) -> NameSet
         ensures same { self.new.watch.book ≡ self.old.watch.book }
         ensures dead { HoldsDead result (picture_of self.old.watch.book) }
         ensures kept { HoldsNamed result (picture_of self.new.watch.book) (left_out (has self.new.watch.out)) }

@@ -1,8 +1,8 @@
 -- Runs of the code's pictures: a new one, and one more event.
-use Rattle.std.proofs.Common.{◌≡◌, ℕ, List, [], ◌∷◌, ◌++◌, get_or, set, replicate, None, Ok, Err, Result, sym, ap, ◌∙◌, subst, inl, inr, arith}
+use Rattle.std.proofs.Common.{◌≡◌, ℕ, List, [], ◌∷◌, ◌++◌, map, length, get_or, set, ◌≤◌, ◌<◌, Ok, Err, Result, sym, ap, ◌∙◌, subst, inl, inr, arith}
 use mathlib.Core.Path.{fun_ext}
 use mathlib.Core.Logic.{∥∥₁_map, ∥∥₁_prop}
-use Rattle.std.proofs.lemmas.List.{length-replicate, get_or-replicate, get_or_past}
+use Rattle.std.proofs.lemmas.List.{get_or_past}
 use Rattle.std.proofs.lemmas.Bool.{cases_lt}
 use Rattle.refusals.specs.declared.Refusal.{Refusal}
 use Rattle.refusals.specs.Checks.{FirstRefusal}
@@ -13,11 +13,12 @@ use Rattle.rules.specs.declared.vocabulary.Outcome.{Outcome}
 use Rattle.rules.specs.Limits.{most_tasks}
 use Rattle.rules.specs.Events.{◌does◌}
 use Rattle.rules.specs.Picture.{Picture, Task, fresh, unborn, status}
-use Rattle.rules.specs.Changes.{put}
+use Rattle.rules.specs.Changes.{put, with_status}
 use Rattle.rules.specs.Rules.{Acts, Step, Steps, none, more}
 use Rattle.rules.specs.Refusals.{action_checks}
 use Rattle.tasks.specs.declared.record.TaskRecord.{TaskRecord}
-use Rattle.tasks.specs.declared.arrivals.Arrivals.{Arrivals}
+use Rattle.arrayvec.specs.ArrayVec.{ArrayVec}
+use Rattle.tasks.specs.declared.ids.TaskId.{TaskId}
 use Rattle.tasks.specs.declared.tables.Tables.{Tables}
 use Rattle.tasks.specs.View.{view, task_of, line_of, blank}
 use Rattle.tasks.specs.Promises.{IsReached, Answered, Did}
@@ -55,16 +56,14 @@ told_by p q v (Err n) s = (s.0, same_picture p q s.1)
 
 -- ---- a new picture
 
-pub new_view : (b r : TaskRecord) (s : Arrivals) → task_of b ≡ unborn → task_of r ≡ record { status = Running; entries = 0; master = None; frames = [] } → line_of s ≡ []
-    → view (record { tasks = set (replicate most_tasks b) 0 r; begun = 1; arrivals = s }) ≡ fresh
-new_view b r s eb er es =
-    view_put (record { tasks = replicate most_tasks b; begun = 1; arrivals = s }) 0 r (omega (arith, length-replicate most_tasks b))
-    ∙ ap (λ (f : ℕ → Task). put (record { begun = 1; task = f; arrivals = line_of s }) 0 (task_of r)) (fun_ext each)
+pub new_view : (xs : List TaskRecord) (r : TaskRecord) (s : ArrayVec TaskId) (f : 1 ≤ most_tasks) → length xs ≡ most_tasks → ((k : ℕ) → k < most_tasks → task_of (get_or xs k blank) ≡ unborn)
+    → task_of r ≡ with_status unborn Running → s.items ≡ []
+    → view (record { tasks = set xs 0 r; begun = 1; arrivals = s; few = f }) ≡ fresh
+new_view xs r s f l eb er es =
+    view_put (record { tasks = xs; begun = 1; arrivals = s; few = f }) 0 r (omega arith)
+    ∙ ap (λ (g : ℕ → Task). put (record { begun = 1; task = g; arrivals = line_of s }) 0 (task_of r)) (fun_ext each)
     ∙ ap (λ (v : Task). put (record { begun = 1; task = λ k. unborn; arrivals = line_of s }) 0 v) er
-    ∙ ap (λ (l : List ℕ). put (record { begun = 1; task = λ k. unborn; arrivals = l }) 0 (record { status = Running; entries = 0; master = None; frames = [] })) es
+    ∙ ap (λ (l : List TaskId). put (record { begun = 1; task = λ k. unborn; arrivals = map (λ t. t.number) l }) 0 (with_status unborn Running)) es
   where
-    each : (k : ℕ) → task_of (get_or (replicate most_tasks b) k blank) ≡ unborn
-    each k = elim (cases_lt k most_tasks) [
-      | inl h ↦ ap task_of (get_or-replicate most_tasks k b blank h) ∙ eb
-      | inr h ↦ ap task_of (get_or_past (replicate most_tasks b) k blank (omega (arith, length-replicate most_tasks b)))
-    ]
+    each : (k : ℕ) → task_of (get_or xs k blank) ≡ unborn
+    each k = elim (cases_lt k most_tasks) [ inl h ↦ eb k h | inr h ↦ ap task_of (get_or_past xs k blank (omega arith)) ]

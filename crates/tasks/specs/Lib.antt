@@ -4,3 +4,4 @@ pub mod Stops
 pub mod Promises
 pub mod Telling
 pub mod Sets
+pub mod Levels

@@ -7,7 +7,6 @@ use Rattle.rules.specs.declared.vocabulary.Status.TheVariants.{Completed, Leavin
 use Rattle.rules.specs.declared.vocabulary.Event.{Event}
 use Rattle.rules.specs.declared.vocabulary.Action.{Action}
 use Rattle.rules.specs.declared.vocabulary.Outcome.{Outcome}
-use Rattle.rules.specs.Limits.{most_tasks}
 use Rattle.rules.specs.Events.{◌does◌}
 use Rattle.rules.specs.Picture.{Picture, status, frames, AllOver, Depends, Over}
 use Rattle.rules.specs.Rules.{Step, Reached}
@@ -35,7 +34,6 @@ Unready p a n = FirstRefusal (check ActorNotBegun (p.begun ≤ a) (check ActorNo
 
 -- what is known while a cascade goes on, after t has ended
 pub record Settling (p : Picture) (t : ℕ) : Type 0 where
-  pub few : p.begun ≤ most_tasks
   pub begun : t < p.begun
   pub elder : (d m l : ℕ) → Depends p d m l → m < d
   pub leaving : (m : ℕ) → status p m ≡ Leaving → BlockInnermost (frames p m)

@@ -34,7 +34,7 @@ impl Tables {
             return Err(Refusal::NoBlockToLeave);
         }
         let level = self.task(actor).open_frames();
-        if self.block_is_over(actor, level) {
+        if self.block_is_over(actor.block(level)) {
             self.close_block(actor);
             return Ok(Outcome::GoesOn);
         }

@@ -4,6 +4,7 @@ ghost use Rattle.tasks.specs.Sets.{open_entries};
 ghost use Rattle.tasks.specs.Telling.{shown, Told};
 
 use crate::picture::Picture;
+use crate::record::TaskRecord;
 use crate::tables::Tables;
 use refusals::Refusal;
 use rules::{Event, Outcome, Status};
@@ -29,22 +30,16 @@ impl Picture {
     pub fn open_entries(&self, task: u16) -> u32
         ensures { result ≡ open_entries (status (shown self.now) task) }
     {
-        let Some(known) = self.tables.tasks.get(task as usize) else {
-            return 0;
-        };
-        match known.open_entries() {
-            Some(open_set) => open_set.len(),
-            None => 0,
-        }
+        self.record(usize::from(task))
+            .and_then(TaskRecord::open_entries)
+            .map_or(0, |open_set| open_set.len())
     }
 
     /// What the task is doing: NotBegun for a number that no task can have.
     pub fn status(&self, task: u16) -> Status
         ensures { result ≡ status (shown self.now) task }
     {
-        match self.tables.tasks.get(task as usize) {
-            Some(known) => known.status,
-            None => Status::NotBegun,
-        }
+        self.record(usize::from(task))
+            .map_or(Status::NotBegun, |known| known.status)
     }
 }

@@ -7,25 +7,34 @@ ghost use Rattle.rules.specs.Changes.{mark, turn, join, leave_queue, let_go, clo
 ghost use Rattle.tasks.specs.View.{view, blank};
 ghost use Rattle.tasks.specs.Stops.{ByteMask, stopped};
 
-use crate::ids::TaskId;
+use crate::ids::{Entry, TaskId};
+use crate::limits::TASKS;
 use crate::record::TaskRecord;
 use crate::tables::Tables;
-use rules::{Action, Frame, Status};
+use rules::{Action, Frame, Master, Status};
 
-// The changes that events are made of.
+/// The record of the task among all.
+pub(crate) fn record_of(tasks: &[TaskRecord; TASKS], t: TaskId) -> &TaskRecord
+    ensures { result.now ≡ slice_index_or tasks.now t.number blank }
+{
+    &tasks[usize::from(t)]
+}
+
+// The changes that events are made of. Those of one task call the method of its record: a change that took a closure would have
+// to say over again, in its clause, what the method's contract says.
 impl Tables {
     /// What is kept of the task.
     pub(crate) fn task(&self, t: TaskId) -> &TaskRecord
         ensures { result.now ≡ slice_index_or self.now.tasks t.number blank }
     {
-        &self.tasks[t.number as usize]
+        record_of(&self.tasks, t)
     }
 
     /// The task has that status now.
     pub(crate) fn mark(&mut self, t: TaskId, status: Status)
         ensures { view self.new ≡ mark (view self.old) t.number status }
     {
-        self.tasks[t.number as usize].set_status(status);
+        self.tasks[usize::from(t)].set_status(status);
     }
 
     /// A Running task stops and waits, as the action has it.
@@ -33,7 +42,7 @@ impl Tables {
         requires { ByteMask action }
         ensures { view self.new ≡ mark (view self.old) t.number (stopped (status (view self.old) t.number) action) }
     {
-        self.tasks[t.number as usize].stop(action);
+        self.tasks[usize::from(t)].stop(action);
     }
 
     /// The task goes on in a new innermost frame.
@@ -41,72 +50,67 @@ impl Tables {
         requires { length (frames (view self.old) t.number) < frame_room }
         ensures { view self.new ≡ turn (view self.old) t.number Running (frame ∷ frames (view self.old) t.number) }
     {
-        self.tasks[t.number as usize].enter(frame);
+        self.tasks[usize::from(t)].enter(frame);
     }
 
     /// The innermost frame of the task closes, and it goes on.
     pub(crate) fn leave_frame(&mut self, t: TaskId)
-        requires { 0 < length (frames (view self.old) t.number) }
         ensures { (f : AFrame) (fs : List AFrame) → frames (view self.old) t.number ≡ f ∷ fs → view self.new ≡ turn (view self.old) t.number Running fs }
     {
-        self.tasks[t.number as usize].leave();
+        self.tasks[usize::from(t)].leave();
     }
 
-    /// The caller joins the end of the queue of an entry of the server.
-    pub(crate) fn join(&mut self, caller: TaskId, server: TaskId, entry: u8)
+    /// The caller joins the end of the queue of the entry.
+    pub(crate) fn join(&mut self, caller: TaskId, entry: Entry)
         requires { length (view self.old).arrivals < most_tasks }
-        ensures { view self.new ≡ join (view self.old) caller.number server.number entry }
+        ensures { view self.new ≡ join (view self.old) caller.number entry.server.number entry.number }
     {
-        self.tasks[caller.number as usize].set_status(Status::Queued {
-            server: server.number,
-            entry,
-        });
-        self.arrivals.join(caller);
+        self.tasks[usize::from(caller)].set_status(entry.queued());
+        self.arrivals.push(caller);
     }
 
     /// The caller leaves its queue.
     pub(crate) fn leave_queue(&mut self, caller: TaskId)
         ensures { view self.new ≡ leave_queue (view self.old) caller.number }
     {
-        self.arrivals.remove(caller);
+        self.arrivals.retain(|other| *other != caller);
     }
 
     /// A rendezvous begins: the caller is Engaged, and the server goes on in it.
-    pub(crate) fn engage(&mut self, caller: TaskId, server: TaskId, entry: u8)
-        requires { length (frames (view self.old) server.number) < frame_room }
-        ensures { view self.new ≡ engage (view self.old) caller.number server.number entry }
+    pub(crate) fn engage(&mut self, caller: TaskId, entry: Entry)
+        requires { length (frames (view self.old) entry.server.number) < frame_room }
+        ensures { view self.new ≡ engage (view self.old) caller.number entry.server.number entry.number }
     {
         self.mark(
             caller,
             Status::Engaged {
-                server: server.number,
+                server: entry.server.number,
             },
         );
         self.enter(
-            server,
+            entry.server,
             Frame::Rendezvous {
                 caller: caller.number,
-                entry,
+                entry: entry.number,
             },
         );
     }
 
-    /// The creator's block at that level has closed: its dependents depend on the creator's body.
-    pub(crate) fn let_go(&mut self, creator: TaskId, level: u8)
-        ensures { view self.new ≡ let_go (view self.old) creator.number level }
+    /// The block has closed: its dependents depend on its creator's body.
+    pub(crate) fn let_go(&mut self, block: Master)
+        ensures { view self.new ≡ let_go (view self.old) block.creator block.level }
     {
         for task in &mut self.tasks[..] {
-            task.let_go(creator, level);
+            task.let_go(block);
         }
     }
 
     /// The innermost frame of the task, a block, closes.
     pub(crate) fn close_block(&mut self, t: TaskId)
-        requires { 0 < length (frames (view self.old) t.number) }
         ensures { (f : AFrame) (fs : List AFrame) → frames (view self.old) t.number ≡ f ∷ fs → view self.new ≡ close (view self.old) t.number fs }
     {
         let level = self.task(t).open_frames();
-        self.let_go(t, level);
+        self.let_go(t.block(level));
         self.leave_frame(t);
     }
 }

@@ -1,4 +1,4 @@
-ghost use Rattle.std.specs.Prelude.{◌≡◌, ℕ, ◌<◌, ◌≤◌, ◌≢◌, ◌⊎◌, [], MatchBool, MatchOption};
+ghost use Rattle.std.specs.Prelude.{◌≡◌, ℕ, ◌≤◌, ◌≢◌, ◌⊎◌, [], cond, MatchBool, MatchOption};
 ghost use Rattle.rules.specs.declared.vocabulary.Status.TheVariants.{Accepting, Completed, Leaving, Running, Terminated};
 ghost use Rattle.rules.specs.Limits.{most_entries};
 ghost use Rattle.rules.specs.Picture.{under, queued_at, queued_at_server};
@@ -8,11 +8,11 @@ ghost use Rattle.tasks.specs.Says.{Says};
 ghost use Rattle.tasks.specs.View.{task_of};
 ghost use Rattle.tasks.specs.Stops.{ByteMask, stopped};
 
-use crate::ids::TaskId;
-use crate::limits::FRAME_ROOM;
+use crate::ids::{Entry, TaskId};
 use crate::open_set::OpenSet;
 use crate::record::TaskRecord;
-use rules::{Action, Frame, Master, Status};
+use arrayvec::ArrayVec;
+use rules::{Action, Master, Status};
 
 // What a task is doing, and what it depends on.
 impl TaskRecord {
@@ -25,8 +25,7 @@ impl TaskRecord {
             status,
             entries,
             master,
-            frames: [Frame::Block; FRAME_ROOM],
-            depth: 0,
+            frames: ArrayVec::new(),
         }
     }
 
@@ -51,35 +50,17 @@ impl TaskRecord {
         }
     }
 
-    pub(crate) fn is_running(&self) -> bool
-        ensures { Says result (self.now.status ≡ Running) }
-    {
-        matches!(self.status, Status::Running)
-    }
-
-    pub(crate) fn is_leaving(&self) -> bool
-        ensures { Says result (self.now.status ≡ Leaving) }
-    {
-        matches!(self.status, Status::Leaving)
-    }
-
-    pub(crate) fn is_completed(&self) -> bool
-        ensures { Says result (self.now.status ≡ Completed) }
-    {
-        matches!(self.status, Status::Completed)
-    }
-
     pub(crate) fn is_terminated(&self) -> bool
         ensures { Says result (self.now.status ≡ Terminated) }
     {
-        matches!(self.status, Status::Terminated)
+        self.status == Status::Terminated
     }
 
     /// Whether it has finished, and so takes no call any more.
     pub(crate) fn has_finished(&self) -> bool
         ensures { MatchBool result ((self.now.status ≡ Completed) ⊎ (self.now.status ≡ Terminated)) ((self.now.status ≢ Completed) × (self.now.status ≢ Terminated)) }
     {
-        self.is_completed() || self.is_terminated()
+        matches!(self.status, Status::Completed | Status::Terminated)
     }
 
     /// The open entries at which it waits for a caller.
@@ -94,67 +75,56 @@ impl TaskRecord {
 
     /// Whether it waits for a caller at that entry.
     pub(crate) fn accepts(&self, entry: u8) -> bool
-        requires { entry < most_entries }
         ensures { MatchBool result ((m : ℕ) × (self.now.status ≡ Accepting m) × In entry m) ((m : ℕ) → self.now.status ≡ Accepting m → IsOpenSet self.now.entries m → In entry m → ⊥) }
     {
-        match self.open_entries() {
-            Some(open_set) => open_set.contains(entry),
-            None => false,
-        }
+        self.open_entries()
+            .is_some_and(|open_set| open_set.contains(entry))
     }
 
-    /// Whether it is queued at that entry of the server.
-    pub(crate) fn waits_at(&self, server: TaskId, entry: u8) -> bool
-        ensures { result ≡ queued_at server.number entry self.now.status }
+    /// Whether it is queued at that entry.
+    pub(crate) fn waits_at(&self, entry: Entry) -> bool
+        ensures { result ≡ queued_at entry.server.number entry.number self.now.status }
     {
-        match self.status {
-            Status::Queued {
-                server: at,
-                entry: e,
-            } => at == server.number && e == entry,
-            _ => false,
-        }
+        self.status == entry.queued()
     }
 
     /// Whether it is queued at any entry of the server.
     pub(crate) fn waits_for(&self, server: TaskId) -> bool
         ensures { result ≡ queued_at_server server.number self.now.status }
     {
-        match self.status {
-            Status::Queued { server: at, .. } => at == server.number,
-            _ => false,
-        }
+        matches!(self.status, Status::Queued { server: at, .. } if at == server.number)
     }
 
-    /// Whether it depends on the block of the creator at that level, or at level 0 on the creator's body.
-    pub(crate) fn depends_on(&self, creator: TaskId, level: u8) -> bool
-        ensures { Says result (self.now.master ≡ under creator.number level) }
+    /// Whether it depends on that block or body.
+    pub(crate) fn depends_on(&self, block: Master) -> bool
+        ensures { Says result (self.now.master ≡ under block.creator block.level) }
     {
-        match self.master {
-            Some(m) => m.creator == creator.number && m.level == level,
-            None => false,
-        }
+        self.master == Some(block)
     }
 
     /// Whether it depends on the creator, at any level.
     pub(crate) fn depends_at_all(&self, creator: TaskId) -> bool
         ensures { Says result ((l : ℕ) × (self.now.master ≡ under creator.number l)) }
     {
-        match self.master {
-            Some(m) => m.creator == creator.number,
-            None => false,
+        self.master
+            .is_some_and(|block| block.creator == creator.number)
+    }
+
+    /// The block has closed: what depended on it depends on its creator's body.
+    pub(crate) fn let_go(&mut self, block: Master)
+        ensures { task_of self.new ≡ with_master (task_of self.old) (freed block.creator block.level self.old.master) }
+    {
+        if self.depends_on(block) {
+            self.master = Some(Master { level: 0, ..block });
         }
     }
 
-    /// The creator's block at that level has closed: what depended on it depends on the creator's body.
-    pub(crate) fn let_go(&mut self, creator: TaskId, level: u8)
-        ensures { task_of self.new ≡ with_master (task_of self.old) (freed creator.number level self.old.master) }
+    /// The server has finished: who was queued at it goes on.
+    pub(crate) fn dismiss(&mut self, server: TaskId)
+        ensures { task_of self.new ≡ cond (queued_at_server server.number self.old.status) (with_status (task_of self.old) Running) (task_of self.old) }
     {
-        if self.depends_on(creator, level) {
-            self.master = Some(Master {
-                creator: creator.number,
-                level: 0,
-            });
+        if self.waits_for(server) {
+            self.status = Status::Running;
         }
     }
 }

@@ -1,14 +1,12 @@
 // The executable picture: the tables of tasks, and the events on them.
 #![tactic(auto)]
 
-mod arrivals;
 mod blocks;
 mod calls;
 mod changes;
 mod condition;
 mod ids;
 mod limits;
-mod line;
 mod lives;
 mod open_set;
 mod picture;

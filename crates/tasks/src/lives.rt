@@ -2,17 +2,18 @@ ghost use Rattle.std.specs.Prelude.{◌≡◌, ◌<◌, ◌≤◌};
 ghost use Rattle.rules.specs.declared.vocabulary.Action.TheVariants.{Begin, Finish};
 ghost use Rattle.rules.specs.declared.vocabulary.Status.TheVariants.{Running};
 ghost use Rattle.rules.specs.Limits.{most_tasks, most_entries};
-ghost use Rattle.rules.specs.Changes.{birth, mark, leave_queue, dismiss};
+ghost use Rattle.rules.specs.Changes.{birth, dismiss};
 ghost use Rattle.rules.specs.Rules.{Acts};
 ghost use Rattle.tasks.specs.View.{view};
 ghost use Rattle.tasks.specs.Promises.{IsReached, Did};
 
+use crate::changes::record_of;
 use crate::ids::TaskId;
 use crate::limits::{ENTRIES, TASKS};
 use crate::record::TaskRecord;
 use crate::tables::Tables;
 use refusals::Refusal;
-use rules::{Action, Master, Outcome, Status};
+use rules::{Action, Outcome, Status};
 
 // How tasks begin and finish: first the checks, in the order of their numbers, then the change.
 impl Tables {
@@ -46,11 +47,8 @@ impl Tables {
         ensures { view self.new ≡ birth (view self.old) creator.number entries }
     {
         let level = self.task(creator).innermost_block();
-        let master = Some(Master {
-            creator: creator.number,
-            level,
-        });
-        self.tasks[self.begun as usize] = TaskRecord::new(Status::Running, entries, master);
+        let master = Some(creator.block(level));
+        self.tasks[usize::from(self.begun)] = TaskRecord::new(Status::Running, entries, master);
         self.begun += 1;
     }
 
@@ -76,22 +74,13 @@ impl Tables {
 
     /// All callers queued at the server leave its queues and go on.
     fn dismiss(&mut self, server: TaskId)
-        requires { IsReached (view self.old) }
         ensures { view self.new ≡ dismiss (view self.old) server.number }
     {
-        for t in 0..TASKS {
-            let caller = TaskId { number: t as u8 };
-            if self.task(caller).waits_for(server) {
-                self.send_away(caller);
-            }
+        let tasks = &self.tasks;
+        self.arrivals
+            .retain(|caller| !record_of(tasks, *caller).waits_for(server));
+        for task in &mut self.tasks[..] {
+            task.dismiss(server);
         }
-    }
-
-    /// The caller leaves its queue and goes on.
-    fn send_away(&mut self, caller: TaskId)
-        ensures { view self.new ≡ leave_queue (mark (view self.old) caller.number Running) caller.number }
-    {
-        self.mark(caller, Status::Running);
-        self.leave_queue(caller);
     }
 }

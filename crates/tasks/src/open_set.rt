@@ -33,10 +33,9 @@ impl OpenSet {
 
     /// Whether the entry is in the set.
     pub(crate) fn contains(&self, entry: u8) -> bool
-        requires { entry < most_entries }
         ensures { Says result (In entry self.now.mask) }
     {
-        (self.mask >> entry) % 2 == 1
+        entry < self.entries && (self.mask >> entry) % 2 == 1
     }
 
     /// How many entries are in the set.

@@ -4,7 +4,7 @@ ghost use Rattle.rules.specs.Rules.{Acts};
 ghost use Rattle.tasks.specs.View.{view};
 ghost use Rattle.tasks.specs.Promises.{IsReached, Did};
 
-use crate::ids::TaskId;
+use crate::ids::{Entry, TaskId};
 use crate::limits::FRAME_ROOM;
 use crate::open_set::OpenSet;
 use crate::tables::Tables;
@@ -24,25 +24,23 @@ impl Tables {
         requires reached { IsReached (view self.old) }
         ensures { Did self.old actor.number (Call server entry) result self.new }
     {
-        if server >= u16::from(self.begun) {
-            return Err(Refusal::ServerNotBegun);
-        }
-        let s = TaskId {
-            number: server as u8,
-        };
+        let s = self.known(server).ok_or(Refusal::ServerNotBegun)?;
         let task = self.task(s);
         if entry >= u16::from(task.entries) {
             return Err(Refusal::NoSuchEntry);
         }
-        let e = entry as u8;
         if task.has_finished() {
             return Ok(Outcome::TaskingError);
         }
-        if task.accepts(e) {
-            self.engage(actor, s, e);
+        let called = Entry {
+            server: s,
+            number: entry as u8,
+        };
+        if task.accepts(called.number) {
+            self.engage(actor, called);
             return Ok(Outcome::Rendezvous);
         }
-        self.join(actor, s, e);
+        self.join(actor, called);
         Ok(Outcome::Waits)
     }
 
@@ -52,9 +50,7 @@ impl Tables {
         ensures { Did self.old actor.number (Accept mask) result self.new }
     {
         let task = self.task(actor);
-        let Some(open_set) = OpenSet::new(mask, task.entries) else {
-            return Err(Refusal::BadOpenSet);
-        };
+        let open_set = OpenSet::new(mask, task.entries).ok_or(Refusal::BadOpenSet)?;
         if usize::from(task.open_frames()) >= FRAME_ROOM {
             return Err(Refusal::NoRoomForRendezvous);
         }
@@ -63,7 +59,7 @@ impl Tables {
             return Ok(Outcome::Waits);
         };
         self.leave_queue(caller.task);
-        self.engage(caller.task, actor, caller.entry);
+        self.engage(caller.task, caller.entry);
         Ok(Outcome::Rendezvous)
     }
 
@@ -73,9 +69,10 @@ impl Tables {
         requires reached { IsReached (view self.old) }
         ensures { Did self.old actor.number EndRendezvous result self.new }
     {
-        let Some(partner) = self.task(actor).partner() else {
-            return Err(Refusal::NoRendezvousToEnd);
-        };
+        let partner = self
+            .task(actor)
+            .partner()
+            .ok_or(Refusal::NoRendezvousToEnd)?;
         let caller = TaskId { number: partner };
         self.leave_frame(actor);
         self.mark(caller, Status::Running);

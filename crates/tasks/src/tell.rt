@@ -3,24 +3,24 @@ ghost use Rattle.rules.specs.Picture.{fresh};
 ghost use Rattle.tasks.specs.View.{view};
 ghost use Rattle.tasks.specs.Promises.{IsReached, Answered};
 
-use crate::arrivals::Arrivals;
-use crate::limits::TASKS;
 use crate::record::TaskRecord;
 use crate::tables::Tables;
+use arrayvec::ArrayVec;
 use refusals::Refusal;
 use rules::{Action, Event, Outcome, Status};
+use std::array;
 
 impl Tables {
     /// Only task 0 has begun.
     pub(crate) fn new() -> Tables
         ensures { view result ≡ fresh }
     {
-        let mut tasks = [TaskRecord::new(Status::NotBegun, 0, None); TASKS];
-        tasks[0] = TaskRecord::new(Status::Running, 0, None);
+        let mut tasks = array::from_fn(|_| TaskRecord::new(Status::NotBegun, 0, None));
+        tasks[0].set_status(Status::Running);
         Tables {
             tasks,
             begun: 1,
-            arrivals: Arrivals::new(),
+            arrivals: ArrayVec::new(),
         }
     }
 

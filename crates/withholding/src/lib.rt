@@ -17,7 +17,7 @@ pub struct Withholding<B> {
 impl<B: WaitBook> WaitBook for Withholding<B> {
     const POINTS: usize = B::POINTS;
 
-    ghost points = { B.WaitBook.points };
+    ghost POINTS = { B.WaitBook.POINTS };
 
     ghost meaning = { λ s p S. not (has s.withheld p) && B.WaitBook.meaning s.below p S };
 
@@ -26,10 +26,6 @@ impl<B: WaitBook> WaitBook for Withholding<B> {
     ghost grows = { Prim.search rules };
 
     ghost beyond = { Prim.search rules };
-
-    fn count() -> usize {
-        B::count()
-    }
 
     fn follows(&self, p: usize, s: &PointSet) -> bool {
         !self.withheld.contains(p) && self.below.follows(p, s)

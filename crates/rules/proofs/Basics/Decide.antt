@@ -1,5 +1,6 @@
 -- What can be decided, and bounded search.
 use Rattle.std.proofs.Common.{◌≡◌, ℕ, zero, suc, ◌<◌, Bool, true, false, not, T, ◌⊎◌, List, [], ◌∷◌, refl, subst, inl, inr, arith}
+use Rattle.std.proofs.lemmas.Bool.{false≢true}
 use native.Mathlib.Decide.{ℕ_discrete}
 
 -- some number below n has P, and each below it lacks it; or none has P
@@ -40,7 +41,11 @@ dec_both (yes _) (no b) = no (λ h. b h.1)
 
 unfoldable pub dec_empty : {A : Type 0} (xs : List A) → Dec (xs ≡ [])
 dec_empty [] = yes refl
-dec_empty (x ∷ xs) = no (λ e. let z : ◌≡◌ {A = ℕ} 0 1 = cc in omega arith)
+dec_empty (x ∷ xs) = no (λ e. cc)
+
+unfoldable pub dec_true : {A : Type 0} (b : Bool) → (b ≡ true → A) → (A → b ≡ true) → Dec A
+dec_true true f g = yes (f refl)
+dec_true false f g = no (λ a. false≢true (g a))
 
 unfoldable pub dec_T : (b : Bool) → Dec (T b)
 dec_T true = yes tt

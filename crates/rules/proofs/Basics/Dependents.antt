@@ -6,7 +6,7 @@ use Rattle.rules.specs.declared.vocabulary.Master.{Master}
 use Rattle.rules.specs.declared.vocabulary.Status.TheVariants.{Terminated}
 use Rattle.rules.proofs.Basics.Decide.{find, sure}
 use Rattle.rules.proofs.Basics.Masters.{same_master}
-use Rattle.rules.proofs.Basics.Statuses.{clash, dec_terminated}
+use Rattle.rules.proofs.Basics.Statuses.{dec_terminated}
 
 -- d, which has that master, is a dependent of m at one of the levels, and lacks Q
 abbrev Lacks : ℕ → (ℕ → Type 0) → (ℕ → Type 0) → ℕ → Option Master → Type 0
@@ -15,7 +15,7 @@ Lacks m levels Q d o = (l : ℕ) × levels l × (o ≡ under m l) × (Q d → �
 module _ (m : ℕ) (levels : ℕ → Type 0) (level? : (l : ℕ) → Dec (levels l)) (Q : ℕ → Type 0) (Q? : (d : ℕ) → Dec (Q d)) where
   unfoldable pub dec_lacks : (d : ℕ) (o : Option Master) → Dec (Lacks m levels Q d o)
   unfolding ℕ_discrete
-  dec_lacks d None = no (λ h. let e = h.2 in clash (cc))
+  dec_lacks d None = no (λ h. let e = h.2 in cc)
   dec_lacks d (Some k) = go (ℕ_discrete k.creator m) (level? k.level) (Q? d)
     where
       go : Dec (k.creator ≡ m) → Dec (levels k.level) → Dec (Q d) → Dec (Lacks m levels Q d (Some k))

@@ -1,10 +1,9 @@
 -- Open frames: where they stand, the innermost block, and the level of a rendezvous.
-use Rattle.std.proofs.Common.{◌≡◌, ℕ, suc, ◌≤◌, Bool, true, false, cond, eqb, ◌≢◌, ◌⊎◌, List, [], ◌∷◌, length, refl, inl, inr, arith}
-use Rattle.std.proofs.lemmas.Bool.{cond-false, cond-true, eq-eqb, ne_eqb}
+use Rattle.std.proofs.Common.{◌≡◌, ℕ, suc, ◌≤◌, eqb, ◌≢◌, ◌⊎◌, List, [], ◌∷◌, length, refl, inl, inr, arith}
+use Rattle.std.proofs.lemmas.Bool.{cond_both, cond-false, cond-true, eq-eqb, ne_eqb}
 use Rattle.rules.specs.Picture.{innermost_block, rendezvous_level}
 use Rattle.rules.specs.declared.vocabulary.Frame.{Frame}
 use Rattle.rules.specs.declared.vocabulary.Frame.TheVariants.{Block, Rendezvous}
-use Rattle.rules.proofs.Basics.Statuses.{clash}
 
 -- frame f stands at level l of fs, counted from the outermost, which has level 1
 abbrev pub Stands : List Frame → ℕ → Frame → Type 0
@@ -18,11 +17,11 @@ stands_low (x ∷ fs) l g (inl s) = omega arith
 stands_low (x ∷ fs) l g (inr s) = let h = stands_low fs l g s in omega arith
 
 pub stands_rendezvous : (fs : List Frame) (l c e : ℕ) → Stands (Block ∷ fs) l (Rendezvous c e) → Stands fs l (Rendezvous c e)
-stands_rendezvous fs l c e (inl (_, z)) = absurd (clash (cc))
+stands_rendezvous fs l c e (inl (_, z)) = absurd (cc)
 stands_rendezvous fs l c e (inr s) = s
 
 pub stands_block : (fs : List Frame) (l c e : ℕ) → Stands (Rendezvous c e ∷ fs) l Block → Stands fs l Block
-stands_block fs l c e (inl (_, z)) = absurd (clash (cc))
+stands_block fs l c e (inl (_, z)) = absurd (cc)
 stands_block fs l c e (inr s) = s
 
 pub innermost_stands : (fs : List Frame) → (innermost_block fs ≡ 0) ⊎ Stands fs (innermost_block fs) Block
@@ -40,8 +39,5 @@ rendezvous_there c b e fs n = cond-false (eqb b c) (suc (length fs)) (rendezvous
 pub rendezvous_below : (c : ℕ) (fs : List Frame) → rendezvous_level c fs ≤ length fs
 rendezvous_below c [] = omega arith
 rendezvous_below c (Block ∷ fs) = let h = rendezvous_below c fs in omega arith
-rendezvous_below c (Rendezvous b e ∷ fs) = go (eqb b c) (rendezvous_below c fs)
-  where
-    go : (t : Bool) → rendezvous_level c fs ≤ length fs → cond t (suc (length fs)) (rendezvous_level c fs) ≤ suc (length fs)
-    go true h = omega arith
-    go false h = omega arith
+rendezvous_below c (Rendezvous b e ∷ fs) = let h = rendezvous_below c fs in
+    cond_both (eqb b c) (suc (length fs)) (rendezvous_level c fs) (λ l. l ≤ suc (length fs)) (λ _. omega arith) (λ _. omega arith)

@@ -1,11 +1,10 @@
 -- Masters: a task has one; and what the masters are once a block has closed and let its dependents go, which are all Terminated.
-use Rattle.std.proofs.Common.{◌≡◌, ℕ, suc, Bool, true, false, cond, ◌&&◌, eqb, ◌⊎◌, Some, None, Option, sym, refl, ap, ◌∙◌, subst, inl, inr, arith}
-use Rattle.std.proofs.lemmas.Bool.{and_from, and_parts, cond-true, eq-eqb, eqb-true}
+use Rattle.std.proofs.Common.{◌≡◌, ℕ, suc, Bool, cond, ◌&&◌, eqb, ◌⊎◌, Some, None, Option, sym, refl, ap, ◌∙◌, subst, inl, inr, arith}
+use Rattle.std.proofs.lemmas.Bool.{and_from, and_parts, cases_Bool, cond-true, eq-eqb, eqb-true}
 use Rattle.rules.specs.Changes.{freed, let_go}
 use Rattle.rules.specs.Picture.{Depends, Over, Picture, status, under}
 use Rattle.rules.specs.declared.vocabulary.Master.{Master}
 use Rattle.rules.specs.declared.vocabulary.Status.TheVariants.{Terminated}
-use Rattle.rules.proofs.Basics.Statuses.{clash}
 
 -- a task has one master
 pub same_master : (x : Option Master) (m l n k : ℕ) → x ≡ under m l → x ≡ under n k
@@ -17,16 +16,14 @@ same_master x m l n k p q =
 -- a master stays, or was that block
 pub freed_cases : (m l : ℕ) (o : Option Master) → (freed m l o ≡ o) ⊎ (o ≡ under m l)
 freed_cases m l None = inl refl
-freed_cases m l (Some k) = go (eqb k.creator m && eqb k.level l) refl
-  where
-    go : (b : Bool) → (eqb k.creator m && eqb k.level l) ≡ b → (freed m l (Some k) ≡ Some k) ⊎ (Some k ≡ under m l)
-    go true e = let h = and_parts (eqb k.creator m) (eqb k.level l) e in
-        inr (λ i. under (eqb-true k.creator m h.0 i) (eqb-true k.level l h.1 i))
-    go false e = inl (ap (λ (b : Bool). under k.creator (cond b 0 k.level)) e)
+freed_cases m l (Some k) = elim (cases_Bool (eqb k.creator m && eqb k.level l)) [
+  | inl e ↦ (let h = and_parts (eqb k.creator m) (eqb k.level l) e in inr (λ i. under (eqb-true k.creator m h.0 i) (eqb-true k.level l h.1 i)))
+  | inr e ↦ inl (ap (λ (b : Bool). under k.creator (cond b 0 k.level)) e)
+]
 
 -- a dependent keeps its creator
 pub freed_creator : (m l : ℕ) (o : Option Master) (n j : ℕ) → freed m l o ≡ under n j → (i : ℕ) × (o ≡ under n i)
-freed_creator m l None n j e = absurd (clash (cc))
+freed_creator m l None n j e = absurd (cc)
 freed_creator m l (Some k) n j e =
     let h = (same_master (freed m l (Some k)) k.creator (cond (eqb k.creator m && eqb k.level l) 0 k.level) n j refl e).0 in
     (k.level, λ i. under (h i) k.level)

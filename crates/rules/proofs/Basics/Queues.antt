@@ -1,81 +1,53 @@
 -- The queues: members of the arrivals, the callers at an entry, and the callers that a finishing task sends away.
-use Rattle.std.proofs.Common.{◌≡◌, ℕ, Bool, true, false, cond, not, ◌&&◌, eqb, ◌≢◌, ◌⊎◌, List, [], ◌∷◌, ◌++◌, sym, refl, ap, ◌∙◌, subst, inl, inr}
-use Rattle.std.proofs.lemmas.Bool.{and_parts, cond-false, cond-true, eq-eqb, eqb-true, false≢true, ne_eqb}
+use Rattle.std.proofs.Common.{◌≡◌, ℕ, Bool, true, false, not, ◌&&◌, eqb, ◌≢◌, ◌⊎◌, List, [], ◌∷◌, Contains, filter, sym, refl, ap, ◌∙◌, subst, inl, inr, arith}
+use Rattle.std.specs.Cmp.{nat_eq_equiv}
+use Rattle.std.proofs.lemmas.Bool.{and_parts, cases_Bool, cond-false, cond-true, eq-eqb, eqb-true, false≢true, ne_eqb}
+use Rattle.std.proofs.lemmas.List.Elements.{All-contains, All-contains_itself, All-filter, All-head, All-same, filter_passes}
+use Rattle.std.proofs.lemmas.Map.Views.{any-filter_same, Contains-from_any, list_any-from_Contains}
 use Rattle.rules.specs.Changes.{dismiss, with_status}
-use Rattle.rules.specs.Picture.{frames, keep, Member, Picture, queued_at, queued_at_server, queued_where, status, Task, without}
+use Rattle.rules.specs.Picture.{frames, Picture, queued_at, queued_at_server, queued_where, status, Task, without}
 use Rattle.rules.specs.Rules.{Takes}
 use Rattle.rules.specs.declared.vocabulary.Status.{Status}
 use Rattle.rules.specs.declared.vocabulary.Status.TheVariants.{Accepting, Completed, Engaged, Leaving, NotBegun, Queued, Running, Terminated}
-use Rattle.rules.proofs.Basics.Statuses.{clash}
-
--- members of the arrivals
-pub member_last : (xs : List ℕ) (a : ℕ) → Member a (xs ++ (a ∷ []))
-member_last [] a = inl refl
-member_last (x ∷ xs) a = inr (member_last xs a)
-
-pub member_more : (xs ys : List ℕ) (t : ℕ) → Member t xs → Member t (xs ++ ys)
-member_more [] ys t m = absurd m
-member_more (x ∷ xs) ys t (inl e) = inl e
-member_more (x ∷ xs) ys t (inr m) = inr (member_more xs ys t m)
-
-pub member_joined : (xs : List ℕ) (a t : ℕ) → Member t (xs ++ (a ∷ [])) → Member t xs ⊎ (t ≡ a)
-member_joined [] a t (inl e) = inr e
-member_joined [] a t (inr m) = absurd m
-member_joined (x ∷ xs) a t (inl e) = inl (inl e)
-member_joined (x ∷ xs) a t (inr m) = elim (member_joined xs a t m) [ inl k ↦ inl (inr k) | inr e ↦ inr e ]
 
 -- the members that pass a test
-pub member_keep : (test : ℕ → Bool) (xs : List ℕ) (t : ℕ) → test t ≡ true → Member t xs → Member t (keep test xs)
-member_keep test [] t h m = m
-member_keep test (x ∷ xs) t h m = go (test x) refl m (member_keep test xs t h)
-  where
-    go : (b : Bool) → test x ≡ b → (t ≡ x) ⊎ Member t xs → (Member t xs → Member t (keep test xs)) → Member t (cond b (x ∷ keep test xs) (keep test xs))
-    go true e (inl i) rest = inl i
-    go true e (inr k) rest = inr (rest k)
-    go false e (inl i) rest = absurd (false≢true (sym e ∙ (ap test (sym i) ∙ h)))
-    go false e (inr k) rest = rest k
+pub Contains-filter : (test : ℕ → Bool) (xs : List ℕ) (t : ℕ) → test t ≡ true → Contains xs t → Contains (filter test xs) t
+Contains-filter test xs t h m = Contains-from_any eqb-true t (filter test xs)
+    (any-filter_same (eqb t) test true (λ k e. subst (λ j. test j ≡ true) (eqb-true t k e) h) xs ∙ list_any-from_Contains nat_eq_equiv t xs m)
 
-pub keep_member : (test : ℕ → Bool) (xs : List ℕ) (t : ℕ) → Member t (keep test xs) → Member t xs × (test t ≡ true)
-keep_member test [] t m = absurd m
-keep_member test (x ∷ xs) t m = go (test x) refl m (keep_member test xs t)
-  where
-    go : (b : Bool) → test x ≡ b → Member t (cond b (x ∷ keep test xs) (keep test xs)) → (Member t (keep test xs) → Member t xs × (test t ≡ true)) → Member t (x ∷ xs) × (test t ≡ true)
-    go true e (inl i) rest = (inl i, ap test i ∙ e)
-    go true e (inr k) rest = (inr (rest k).0, (rest k).1)
-    go false e k rest = (inr (rest k).0, (rest k).1)
+pub Contains-from_filter : (test : ℕ → Bool) (xs : List ℕ) (t : ℕ) → Contains (filter test xs) t → Contains xs t × (test t ≡ true)
+Contains-from_filter test xs t m =
+    (All-contains (Contains xs) (filter test xs) t (All-filter test (Contains xs) xs (All-contains_itself xs)) m, All-contains (λ x. test x ≡ true) (filter test xs) t (filter_passes test xs) m)
 
 -- the first member that passes
-pub keep_head : (test : ℕ → Bool) (xs : List ℕ) (c : ℕ) (rest : List ℕ) → keep test xs ≡ c ∷ rest → test c ≡ true
-keep_head test xs c rest e = (keep_member test xs c (subst (Member c) (sym e) (inl refl))).1
+pub filter_head : (test : ℕ → Bool) (xs : List ℕ) (c : ℕ) (rest : List ℕ) → filter test xs ≡ c ∷ rest → test c ≡ true
+filter_head test xs c rest e = All-head (λ x. test x ≡ true) c rest (All-same (λ x. test x ≡ true) (c ∷ rest) (filter test xs) (sym e) (filter_passes test xs))
 
-abbrev pub KeptOne : (ℕ → Bool) → List ℕ → Type 0
-KeptOne test xs = (c : ℕ) × (rest : List ℕ) × (keep test xs ≡ c ∷ rest)
+abbrev pub HasHead : List ℕ → Type 0
+HasHead xs = (c : ℕ) × (rest : List ℕ) × (xs ≡ c ∷ rest)
 
-pub keep_has : (test : ℕ → Bool) (x : ℕ) (xs : List ℕ) → Member x xs → test x ≡ true → KeptOne test xs
-keep_has test x xs m h = go (keep test xs) refl (member_keep test xs x h m)
-  where
-    go : (ys : List ℕ) → keep test xs ≡ ys → Member x ys → KeptOne test xs
-    go [] e m = absurd m
-    go (c ∷ rest) e m = (c, rest, e)
+pub has_head : (xs : List ℕ) (x : ℕ) → Contains xs x → HasHead xs
+has_head [] x m = absurd (omega (arith, m.1))
+has_head (c ∷ rest) x m = (c, rest, refl)
 
 -- the arrivals without one task
-pub member_without : (xs : List ℕ) (c t : ℕ) → c ≢ t → Member t xs → Member t (without c xs)
-member_without xs c t n = member_keep (λ x. not (eqb x c)) xs t (ap not (ne_eqb t c (λ e. n (sym e))))
+pub Contains-without : (xs : List ℕ) (c t : ℕ) → c ≢ t → Contains xs t → Contains (without c xs) t
+Contains-without xs c t n = Contains-filter (λ x. not (eqb x c)) xs t (ap not (ne_eqb t c (λ e. n (sym e))))
 
-pub without_member : (xs : List ℕ) (c t : ℕ) → Member t (without c xs) → Member t xs × (c ≢ t)
-without_member xs c t m = let h = keep_member (λ x. not (eqb x c)) xs t m in
+pub Contains-from_without : (xs : List ℕ) (c t : ℕ) → Contains (without c xs) t → Contains xs t × (c ≢ t)
+Contains-from_without xs c t m = let h = Contains-from_filter (λ x. not (eqb x c)) xs t m in
     (h.0, λ e. false≢true (ap not (sym (eq-eqb t c (sym e))) ∙ h.1))
 
 -- where a queued task waits
 queued_where_is : (test : ℕ → ℕ → Bool) (S : Status) → queued_where test S ≡ true → (s : ℕ) × (e : ℕ) × (S ≡ Queued s e) × (test s e ≡ true)
-queued_where_is test NotBegun h = absurd (clash (cc))
-queued_where_is test Running h = absurd (clash (cc))
+queued_where_is test NotBegun h = absurd (cc)
+queued_where_is test Running h = absurd (cc)
 queued_where_is test (Queued s e) h = (s, e, refl, h)
-queued_where_is test (Engaged _) h = absurd (clash (cc))
-queued_where_is test (Accepting _) h = absurd (clash (cc))
-queued_where_is test Leaving h = absurd (clash (cc))
-queued_where_is test Completed h = absurd (clash (cc))
-queued_where_is test Terminated h = absurd (clash (cc))
+queued_where_is test (Engaged _) h = absurd (cc)
+queued_where_is test (Accepting _) h = absurd (cc)
+queued_where_is test Leaving h = absurd (cc)
+queued_where_is test Completed h = absurd (cc)
+queued_where_is test Terminated h = absurd (cc)
 
 pub queued_at_is : (s e : ℕ) (S : Status) → queued_at s e S ≡ true → S ≡ Queued s e
 queued_at_is s e S h =
@@ -96,11 +68,10 @@ Sent p d x = (((dismiss p d).task x ≡ p.task x) × (queued_at_server d (status
     ⊎ (((dismiss p d).task x ≡ with_status (p.task x) Running) × ((e : ℕ) × (status p x ≡ Queued d e)))
 
 pub sent : (p : Picture) (d x : ℕ) → Sent p d x
-sent p d x = go (queued_at_server d (status p x)) refl
-  where
-    go : (b : Bool) → queued_at_server d (status p x) ≡ b → Sent p d x
-    go true h = inr (cond-true (queued_at_server d (status p x)) (with_status (p.task x) Running) (p.task x) h, queued_at_server_is d (status p x) h)
-    go false h = inl (cond-false (queued_at_server d (status p x)) (with_status (p.task x) Running) (p.task x) h, h)
+sent p d x = elim (cases_Bool (queued_at_server d (status p x))) [
+  | inl h ↦ inr (cond-true (queued_at_server d (status p x)) (with_status (p.task x) Running) (p.task x) h, queued_at_server_is d (status p x) h)
+  | inr h ↦ inl (cond-false (queued_at_server d (status p x)) (with_status (p.task x) Running) (p.task x) h, h)
+]
 
 -- to prove something of every task after the dismissal
 pub dismiss_each : (p : Picture) (a : ℕ) (P : ℕ → Task → Type 0) → ((t e : ℕ) → status p t ≡ Queued a e → P t (with_status (p.task t) Running))
@@ -118,4 +89,4 @@ dismiss_master p a = dismiss_each p a (λ t w. w.master ≡ (p.task t).master) (
 
 -- the caller that an accept takes is queued
 pub taken : (p : Picture) (a mask c e : ℕ) → Takes p a mask c e → status p c ≡ Queued a e
-taken p a mask c e k = queued_at_is a e (status p c) (keep_head (λ t. queued_at a e (status p t)) p.arrivals c k.rest k.head)
+taken p a mask c e k = queued_at_is a e (status p c) (filter_head (λ t. queued_at a e (status p t)) p.arrivals c k.rest k.head)

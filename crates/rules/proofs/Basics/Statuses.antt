@@ -1,13 +1,9 @@
 -- Statuses told apart, and compared.
-use Rattle.std.proofs.Common.{◌≡◌, ℕ, zero, suc, Bool, true, false, not, T, eqb, sym, refl, ap, ◌∙◌, arith}
+use Rattle.std.proofs.Common.{◌≡◌, ℕ, zero, suc, not, T, eqb, T_not, sym, refl, ap, ◌∙◌}
 use native.Mathlib.Decide.{ℕ_discrete}
-use Rattle.std.proofs.lemmas.Bool.{eq-eqb}
+use Rattle.std.proofs.Math.Facts.{yes_eqb}
 use Rattle.rules.specs.declared.vocabulary.Status.{Status}
 use Rattle.rules.specs.declared.vocabulary.Status.TheVariants.{Accepting, Completed, Engaged, Leaving, NotBegun, Queued, Running, Terminated}
-
--- two constructors told apart: cc proves 0 ≡ 1 from an equation between them
-pub clash : ◌≡◌ {A = ℕ} 0 1 → ⊥
-clash z = omega arith
 
 -- kinds of status, to tell two apart
 abbrev pub kind : Status → ℕ
@@ -21,11 +17,7 @@ kind Completed = 6
 kind Terminated = 7
 
 pub apart : {s r : Status} → s ≡ r → T (not (eqb (kind s) (kind r))) → ⊥
-apart {s} {r} e t = go (eqb (kind s) (kind r)) (eq-eqb (kind s) (kind r) (ap kind e)) t
-  where
-    go : (b : Bool) → b ≡ true → T (not b) → ⊥
-    go true h n = n
-    go false h n = let z : ◌≡◌ {A = ℕ} 0 1 = cc in omega arith
+apart {s} {r} e t = T_not (eqb (kind s) (kind r)) t (yes_eqb (ap kind e))
 
 unfoldable pub dec_kind : (s : Status) (k : ℕ) → Dec (kind s ≡ k)
 unfolding ℕ_discrete

@@ -9,7 +9,6 @@ use Rattle.rules.specs.declared.vocabulary.Status.TheVariants.{Completed, Engage
 use Rattle.rules.proofs.Basics.Frames.{innermost_stands, Stands}
 use Rattle.rules.proofs.Basics.Limits.{some_tasks}
 use Rattle.rules.proofs.Basics.Masters.{same_master}
-use Rattle.rules.proofs.Basics.Statuses.{clash}
 use Rattle.rules.proofs.Basics.Tasks.{at_each, at_other}
 use Rattle.rules.proofs.Invariant.Change.{Env, stat_keep}
 use Rattle.rules.proofs.Invariant.Good.{Framed, no_excuse, not_begun, StatOf}
@@ -60,13 +59,13 @@ module _ (p : Picture) (g : Sound p) (a n : ℕ) (r : Acts p a) (room : p.begun 
       ),
     );
     back = λ l _ o. ((λ x. x), old_over t l o);
-    on = λ z o l. new_over t l (λ x. let y = ap (status p) x in let w = r.1 in clash (cc)) (o l);
+    on = λ z o l. new_over t l (λ x. let y = ap (status p) x in let w = r.1 in cc) (o l);
   }
 
   framed_kept : (t : ℕ) → Framed q t (frames p t)
   framed_kept t = record {
     framed = λ l c e s. at_each (λ c w. status p c ≡ Engaged t → w.status ≡ Engaged t) p.task p.begun u
-        (λ z. let y = unborn_yet in absurd (clash (cc))) (λ _ _ z. z) c ((g.framed t).framed l c e s);
+        (λ z. let y = unborn_yet in absurd (cc)) (λ _ _ z. z) c ((g.framed t).framed l c e s);
     once = (g.framed t).once;
     shallow = (g.framed t).shallow;
     blocks = (g.framed t).blocks;
@@ -98,7 +97,7 @@ module _ (p : Picture) (g : Sound p) (a n : ℕ) (r : Acts p a) (room : p.begun 
       s,
       e,
       at_each (λ t w. status p t ≡ Queued s e → w.status ≡ Queued s e) p.task p.begun u
-          (λ z. let y = unborn_yet in absurd (clash (cc))) (λ _ _ z. z) t h,
+          (λ z. let y = unborn_yet in absurd (cc)) (λ _ _ z. z) t h,
     );
     entries = at_each (λ t w. t < suc p.begun → w.entries ≤ most_entries) p.task p.begun u (λ _. m) (λ t k i. g.entries t (omega arith));
     elder = λ d k l (h, e). at_each (λ d w. d < suc p.begun → w.master ≡ under k l → k < d) p.task p.begun u
@@ -121,14 +120,14 @@ fresh_frames t = record {
 
 no_masters : (d m l : ℕ) → Depends fresh d m l → ⊥
 no_masters d m l (_, e) = at_each (λ _ w. w.master ≡ under m l → ⊥) (λ _. unborn) 0 (with_status unborn Running)
-    (λ z. clash (cc)) (λ _ _ z. clash (cc)) d e
+    (λ z. cc) (λ _ _ z. cc) d e
 
 pub sound_fresh : Sound fresh
 sound_fresh = record {
   few = some_tasks;
   stat = at_each (λ t w. StatOf fresh no_excuse t w) (λ _. unborn) 0 (with_status unborn Running) (omega arith) (λ t n. (omega arith, refl));
   framed = at_each (λ t w. Framed fresh t w.frames) (λ _. unborn) 0 (with_status unborn Running) (fresh_frames 0) (λ t _. fresh_frames t);
-  arrived = λ t m. absurd m;
+  arrived = λ t m. absurd (omega (arith, m.1));
   entries = at_each (λ t w. t < 1 → w.entries ≤ most_entries) (λ _. unborn) 0 (with_status unborn Running) (λ _. omega arith) (λ t _ _. omega arith);
   elder = λ d m l h. absurd (no_masters d m l h);
   attached = λ d m l h. absurd (no_masters d m l h);

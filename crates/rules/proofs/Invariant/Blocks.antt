@@ -10,7 +10,6 @@ use Rattle.rules.specs.declared.vocabulary.Status.TheVariants.{Engaged, Leaving,
 use Rattle.rules.proofs.Basics.Frames.{Stands, stands_rendezvous}
 use Rattle.rules.proofs.Basics.Limits.{blocks_fit}
 use Rattle.rules.proofs.Basics.Masters.{freed_cases, freed_creator, freed_none, freed_own, over_back, over_on}
-use Rattle.rules.proofs.Basics.Statuses.{clash}
 use Rattle.rules.proofs.Basics.Tasks.{at_same}
 use Rattle.rules.proofs.Invariant.Change.{Env, moves, stat_keep}
 use Rattle.rules.proofs.Invariant.Good.{Excuse, Framed, Good, no_excuse}
@@ -51,10 +50,10 @@ module _ (p : Picture) (X : Excuse) (g : Good p X) (a : ℕ) (fs : List Frame)
         frames = inr (framed_part p X g (turn p a Running fs) a fs same room low (one_engaged p a u p.arrivals X no_excuse n₁ a));
         hosts = λ l c e _ s. on l c e s;
         opened = over;
-        serves = λ _ _ _ _ _. ((λ y. clash (cc)), (λ y. clash (cc)));
+        serves = λ _ _ _ _ _. ((λ y. cc), (λ y. cc));
         engages = λ s l e z _. absurd (n₁ s z);
         was = n₂;
-        ended = λ y. absurd (clash (cc));
+        ended = λ y. absurd (cc);
       })
       (λ t _ m. m)
       (one_arrived p a u p.arrivals X no_excuse g n₃)
@@ -62,7 +61,7 @@ module _ (p : Picture) (X : Excuse) (g : Good p X) (a : ℕ) (fs : List Frame)
 
 pub good_opens : (p : Picture) → Sound p → (a : ℕ) → Acts p a → length (frames p a) < block_room → Sound (turn p a Running (Block ∷ frames p a))
 good_opens p g a (b, z) n = reframes p no_excuse g a (Block ∷ frames p a) b
-    (λ s y. clash (cc)) (λ y. clash (cc)) (λ s e y. clash (cc)) (λ t l _ y. y)
+    (λ s y. cc) (λ y. cc) (λ s e y. cc) (λ t l _ y. y)
     (λ l c e s. stands_rendezvous (frames p a) l c e s) (λ l c e s. inr s)
     (let r = blocks_fit in omega arith) (λ l s. elim s [ inl y ↦ let w = y.0 in omega arith | inr y ↦ (g.framed a).blocks l y ])
     (λ l s. inr (inr s))
@@ -97,9 +96,9 @@ module _ (p : Picture) (X : Excuse) (g : Good p X) (m l : ℕ) (o : Over p m l) 
 good_shuts : (p : Picture) (X : Excuse) → Good p X → (a : ℕ) (fs : List Frame) → a < p.begun → (status p a ≡ Running) ⊎ (status p a ≡ Leaving)
     → frames p a ≡ Block ∷ fs → ((d : ℕ) → Depends p d a (suc (length fs)) → ⊥) → ((t l : ℕ) → a ≢ t → X t l → ⊥) → Sound (turn p a Running fs)
 good_shuts p X g a fs b z e o x = reframes p X g a fs b
-    (λ s y. elim z [ inl k ↦ clash (cc) | inr k ↦ clash (cc) ])
-    (λ y. elim z [ inl k ↦ clash (cc) | inr k ↦ clash (cc) ])
-    (λ s f y. elim z [ inl k ↦ clash (cc) | inr k ↦ clash (cc) ])
+    (λ s y. elim z [ inl k ↦ cc | inr k ↦ (cc) ])
+    (λ y. elim z [ inl k ↦ cc | inr k ↦ (cc) ])
+    (λ s f y. elim z [ inl k ↦ cc | inr k ↦ (cc) ])
     x
     (λ l c f s. rw e (inr s)) (λ l c f s. stands_rendezvous fs l c f (rw e at s))
     (let h : length (Block ∷ fs) ≤ frame_room = rw e at (g.framed a).shallow in omega arith)

@@ -1,7 +1,7 @@
 -- One lemma for all events but a begin: if every task is as it was, or has changed in an orderly way, then what was good is good.
-use Rattle.std.proofs.Common.{◌≡◌, ℕ, suc, ◌<◌, ◌≤◌, ◌≢◌, ◌⊎◌, List, length, sym, refl, ap, ◌∙◌, subst, inl, inr}
+use Rattle.std.proofs.Common.{◌≡◌, ℕ, suc, ◌<◌, ◌≤◌, ◌≢◌, ◌⊎◌, List, length, Contains, sym, refl, ap, ◌∙◌, subst, inl, inr}
 use Rattle.rules.specs.Limits.{most_entries}
-use Rattle.rules.specs.Picture.{AllOver, Depends, frames, Member, Over, Picture, status, Task, under}
+use Rattle.rules.specs.Picture.{AllOver, Depends, frames, Over, Picture, status, Task, under}
 use Rattle.rules.specs.declared.vocabulary.Frame.{Frame}
 use Rattle.rules.specs.declared.vocabulary.Frame.TheVariants.{Block, Rendezvous}
 use Rattle.rules.specs.declared.vocabulary.Status.{Status}
@@ -61,8 +61,8 @@ pub record Changed (p q : Picture) (K : ℕ → Type 0) (Y : Excuse) (t : ℕ) (
 pub record Move (p : Picture) (f : ℕ → Task) (xs : List ℕ) (K : ℕ → Type 0) (X Y : Excuse) : Type 0 where
   pub kept : (t : ℕ) → K t → f t ≡ p.task t
   pub each : (t : ℕ) → K t ⊎ ((u : Task) × Changed p (next p f xs) K Y t u)
-  pub member : (t : ℕ) → K t → Member t p.arrivals → Member t xs
-  pub arrived : (t : ℕ) → Member t xs → (s : ℕ) × (e : ℕ) × ((f t).status ≡ Queued s e)
+  pub member : (t : ℕ) → K t → Contains p.arrivals t → Contains xs t
+  pub arrived : (t : ℕ) → Contains xs t → (s : ℕ) × (e : ℕ) × ((f t).status ≡ Queued s e)
   pub excused : (t l : ℕ) → K t → X t l → Y t l
 
 module _ (p : Picture) (f : ℕ → Task) (xs : List ℕ) (K : ℕ → Type 0) (X Y : Excuse) (g : Good p X) (v : Move p f xs K X Y) where

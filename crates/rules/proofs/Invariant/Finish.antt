@@ -7,8 +7,7 @@ use Rattle.rules.specs.Rules.{Acts}
 use Rattle.rules.specs.declared.vocabulary.Status.{Status}
 use Rattle.rules.specs.declared.vocabulary.Status.TheVariants.{Completed, Engaged, Queued, Running, Terminated}
 use Rattle.rules.proofs.Basics.Masters.{same_master}
-use Rattle.rules.proofs.Basics.Queues.{dismiss_each, dismiss_frames, dismiss_master, keep_member, member_keep, queued_at_server_is, queued_at_server_queued}
-use Rattle.rules.proofs.Basics.Statuses.{clash}
+use Rattle.rules.proofs.Basics.Queues.{dismiss_each, dismiss_frames, dismiss_master, Contains-filter, Contains-from_filter, queued_at_server_is, queued_at_server_queued}
 use Rattle.rules.proofs.Basics.Tasks.{at_same}
 use Rattle.rules.proofs.Invariant.Change.{Changed, moves}
 use Rattle.rules.proofs.Invariant.Good.{Excuse, Good, no_excuse, stat_is, StatOf, Waiting}
@@ -27,15 +26,15 @@ module _ (p : Picture) (a : ℕ) where
   not_dismissed t e = cond-false (queued_at_server a (status p t)) (with_status (p.task t) Running) (p.task t) e
 
   pub no_caller : (c e : ℕ) → status (dismiss p a) c ≢ Queued a e
-  no_caller c e = dismiss_each p a (λ t w. w.status ≢ Queued a e) (λ t f z y. clash (cc)) (λ t h z. let k = ap (queued_at_server a) z ∙ queued_at_server_queued a e in clash (cc)) c
+  no_caller c e = dismiss_each p a (λ t w. w.status ≢ Queued a e) (λ t f z y. cc) (λ t h z. let k = ap (queued_at_server a) z ∙ queued_at_server_queued a e in cc) c
 
   pub dismiss_over_back : (m l : ℕ) → Over (dismiss p a) m l → Over p m l
   dismiss_over_back m l = over_from p (dismiss p a) refl (dismiss_master p a) m l
-      (λ d _. dismiss_each p a (λ t w. w.status ≡ Terminated → status p t ≡ Terminated) (λ t e z y. absurd (clash (cc))) (λ t _ z. z) d)
+      (λ d _. dismiss_each p a (λ t w. w.status ≡ Terminated → status p t ≡ Terminated) (λ t e z y. absurd (cc)) (λ t _ z. z) d)
 
   pub dismiss_over_on : (m l : ℕ) → Over p m l → Over (dismiss p a) m l
   dismiss_over_on m l = over_from (dismiss p a) p refl (λ t. sym (dismiss_master p a t)) m l
-      (λ d _. dismiss_each p a (λ t w. status p t ≡ Terminated → w.status ≡ Terminated) (λ t e z y. absurd (clash (cc))) (λ t _ z. z) d)
+      (λ d _. dismiss_each p a (λ t w. status p t ≡ Terminated → w.status ≡ Terminated) (λ t e z y. absurd (cc)) (λ t _ z. z) d)
 
   module _ (g : Sound p) where
     each_dismissed : (t e : ℕ) → queued_at_server a (status p t) ≡ true → status p t ≡ Queued a e → Changed p (dismiss p a) stays no_excuse t (with_status (p.task t) Running)
@@ -47,10 +46,10 @@ module _ (p : Picture) (a : ℕ) where
       frames = inl refl;
       hosts = λ l c e _ s. s;
       opened = λ l s. inr s;
-      serves = λ _ _ _ _ _. ((λ y. clash (cc)), (λ y. clash (cc)));
-      engages = λ s l f y _. absurd (clash (cc));
-      was = λ y. clash (cc);
-      ended = λ y. absurd (clash (cc));
+      serves = λ _ _ _ _ _. ((λ y. cc), (λ y. cc));
+      engages = λ s l f y _. absurd (cc);
+      was = λ y. cc;
+      ended = λ y. absurd (cc);
     }
 
     pub good_dismiss : Sound (dismiss p a)
@@ -60,8 +59,8 @@ module _ (p : Picture) (a : ℕ) where
         | inl k ↦ let h = queued_at_server_is a (status p t) k in inr (with_status (p.task t) Running, each_dismissed t h.0 k h.1)
         | inr k ↦ inl k
       ];
-      member = λ t k. member_keep (λ x. not (queued_at_server a (status p x))) p.arrivals t (ap not k);
-      arrived = λ t m. let h = keep_member (λ x. not (queued_at_server a (status p x))) p.arrivals t m in
+      member = λ t k. Contains-filter (λ x. not (queued_at_server a (status p x))) p.arrivals t (ap not k);
+      arrived = λ t m. let h = Contains-from_filter (λ x. not (queued_at_server a (status p x))) p.arrivals t m in
           subst (λ w. (s : ℕ) × (e : ℕ) × (w.status ≡ Queued s e)) (sym (not_dismissed t (not-true (queued_at_server a (status p t)) h.1))) (g.arrived t h.0);
       excused = λ t l _ x. x;
     })
@@ -102,21 +101,21 @@ module _ (p : Picture) (g : Sound p) (a : ℕ) (r : Acts p a) (e : frames p a �
     r.0,
     e',
     λ _ o. n (λ l. dismiss_over_back p a a l
-        (one_over_back p' a (with_status (p'.task a) Completed) p'.arrivals no_excuse no_excuse refl (λ y. clash (cc)) a l (o l))),
+        (one_over_back p' a (with_status (p'.task a) Completed) p'.arrivals no_excuse no_excuse refl (λ y. cc) a l (o l))),
   )
-      (λ s y. clash (cc)) (λ y. clash (cc)) (λ s e y. clash (cc))
+      (λ s y. cc) (λ y. cc) (λ s e y. cc)
       (λ c f y _. no_caller p a c f y)
-      (λ y. absurd (clash (cc)))
+      (λ y. absurd (cc))
       (λ t l _ x. x)
 
   pub good_ends : AllOver p a → Good (mark (dismiss p a) a Terminated) (master_of (mark (dismiss p a) a Terminated) a)
   good_ends o = let z = r'.1 in good_retires p' no_excuse (good_dismiss p a g) a Terminated (master_of (mark (dismiss p a) a Terminated) a) (
     r.0,
     e',
-    λ l. one_over_on p' a (with_status (p'.task a) Terminated) p'.arrivals no_excuse no_excuse refl (λ y. clash (cc)) a l
+    λ l. one_over_on p' a (with_status (p'.task a) Terminated) p'.arrivals no_excuse no_excuse refl (λ y. cc) a l
         (dismiss_over_on p a a l (o l)),
   )
-      (λ s y. clash (cc)) (λ y. clash (cc)) (λ s e y. clash (cc))
+      (λ s y. cc) (λ y. cc) (λ s e y. cc)
       (λ c f y _. no_caller p a c f y)
       (λ _ m l y. ap (λ w. w.master) (at_same p'.task a (with_status (p'.task a) Terminated)) ∙ y)
       (λ t l _ x. absurd x)
@@ -127,9 +126,9 @@ pub good_master_ends : (p : Picture) (t m l : ℕ) → Good p (master_of p t) �
 good_master_ends p t m l g e z o = good_retires p (master_of p t) g m Terminated (master_of (mark p m Terminated) m) (
   (stat_is g m Completed z).0,
   (stat_is g m Completed z).1,
-  λ k. one_over_on p m (with_status (p.task m) Terminated) p.arrivals no_excuse no_excuse refl (λ y. clash (cc)) m k (o k),
+  λ k. one_over_on p m (with_status (p.task m) Terminated) p.arrivals no_excuse no_excuse refl (λ y. cc) m k (o k),
 )
-    (λ s y. clash (cc)) (λ y. clash (cc)) (λ s e y. clash (cc))
+    (λ s y. cc) (λ y. cc) (λ s e y. cc)
     (λ c f y w. w.open₁ z)
     (λ _ k l y. ap (λ w. w.master) (at_same p.task m (with_status (p.task m) Terminated)) ∙ y)
     (λ s k n y. absurd (n (same_master (p.task t).master m l s k e y).0))

@@ -1,8 +1,8 @@
 -- The invariant, arranged by the status of each task. `Good p X` has excuses: a task m which waits for its dependents at level l
 -- may find none of them unfinished where X m l. Such a task is there only while a cascade goes on.
-use Rattle.std.proofs.Common.{◌≡◌, ℕ, suc, ◌<◌, ◌≤◌, ◌≢◌, ◌⊎◌, List, [], ◌∷◌, length, refl, subst, arith}
+use Rattle.std.proofs.Common.{◌≡◌, ℕ, suc, ◌<◌, ◌≤◌, ◌≢◌, ◌⊎◌, List, [], ◌∷◌, length, Contains, refl, subst, arith}
 use Rattle.rules.specs.Limits.{block_room, frame_room, most_entries, most_tasks}
-use Rattle.rules.specs.Picture.{AllOver, Depends, frames, Member, Over, Picture, status, Task}
+use Rattle.rules.specs.Picture.{AllOver, Depends, frames, Over, Picture, status, Task}
 use Rattle.rules.specs.Rules.{IsOpenSet}
 use Rattle.rules.specs.declared.vocabulary.Frame.{Frame}
 use Rattle.rules.specs.declared.vocabulary.Frame.TheVariants.{Block, Rendezvous}
@@ -23,7 +23,7 @@ pub record Waiting (p : Picture) (t s e : ℕ) : Type 0 where
   pub entry : e < (p.task s).entries
   pub open₁ : status p s ≢ Completed
   pub open₂ : status p s ≢ Terminated
-  pub arrived : Member t p.arrivals
+  pub arrived : Contains p.arrivals t
 
 -- t stands in a rendezvous of s
 abbrev pub Hosted : Picture → ℕ → ℕ → Type 0
@@ -59,7 +59,7 @@ pub record Good (p : Picture) (X : Excuse) : Type 0 where
   pub few : p.begun ≤ most_tasks
   pub stat : (t : ℕ) → StatOf p X t (p.task t)
   pub framed : (t : ℕ) → Framed p t (frames p t)
-  pub arrived : (t : ℕ) → Member t p.arrivals → (s : ℕ) × (e : ℕ) × (status p t ≡ Queued s e)
+  pub arrived : (t : ℕ) → Contains p.arrivals t → (s : ℕ) × (e : ℕ) × (status p t ≡ Queued s e)
   pub entries : (t : ℕ) → t < p.begun → (p.task t).entries ≤ most_entries
   pub elder : (d m l : ℕ) → Depends p d m l → m < d
   pub attached : (d m l : ℕ) → Depends p d m l → (l ≡ 0) ⊎ Stands (frames p m) l Block

@@ -1,16 +1,15 @@
 -- The invariant is kept by the events after which one task waits: to leave a block, in a queue, or to accept.
-use Rattle.std.proofs.Common.{◌≡◌, ℕ, suc, ◌<◌, ◌≢◌, List, [], ◌∷◌, ◌++◌, length, sym, refl, ◌∙◌, subst, inl, inr}
+use Rattle.std.proofs.Common.{◌≡◌, ℕ, suc, ◌<◌, ◌≢◌, List, [], ◌∷◌, ◌++◌, length, Contains, sym, refl, ◌∙◌, subst, inl, inr}
+use Rattle.std.proofs.lemmas.List.Elements.{Contains-append_left, Contains-push, Contains-push_cases}
 use native.Mathlib.Decide.{ℕ_discrete}
 use Rattle.rules.specs.Changes.{join, mark, with_status}
 use Rattle.rules.specs.Limits.{frame_room}
-use Rattle.rules.specs.Picture.{at, Depends, frames, Member, Over, Picture, status, Task, under}
+use Rattle.rules.specs.Picture.{at, Depends, frames, Over, Picture, status, Task, under}
 use Rattle.rules.specs.Rules.{Acts, IsOpenSet}
 use Rattle.rules.specs.declared.vocabulary.Frame.{Frame}
 use Rattle.rules.specs.declared.vocabulary.Frame.TheVariants.{Block}
 use Rattle.rules.specs.declared.vocabulary.Status.{Status}
 use Rattle.rules.specs.declared.vocabulary.Status.TheVariants.{Accepting, Completed, Engaged, Leaving, Queued, Terminated}
-use Rattle.rules.proofs.Basics.Queues.{member_joined, member_last, member_more}
-use Rattle.rules.proofs.Basics.Statuses.{clash}
 use Rattle.rules.proofs.Basics.Tasks.{at_each, at_other, at_same, put_master}
 use Rattle.rules.proofs.Invariant.Change.{Changed, Move, moves, next}
 use Rattle.rules.proofs.Invariant.Good.{Excuse, Good, no_excuse, StatOf, Waiting}
@@ -29,8 +28,8 @@ module _ (p : Picture) (a : ℕ) (u : Task) (xs : List ℕ) (X Y : Excuse) where
   after = next p (at p.task a u) xs
 
   pub one_move : Changed p after (others a) Y a u
-      → ((t : ℕ) → a ≢ t → Member t p.arrivals → Member t xs)
-      → ((t : ℕ) → Member t xs → (s : ℕ) × (e : ℕ) × ((at p.task a u t).status ≡ Queued s e))
+      → ((t : ℕ) → a ≢ t → Contains p.arrivals t → Contains xs t)
+      → ((t : ℕ) → Contains xs t → (s : ℕ) × (e : ℕ) × ((at p.task a u t).status ≡ Queued s e))
       → ((t l : ℕ) → a ≢ t → X t l → Y t l)
       → Move p (at p.task a u) xs (others a) X Y
   one_move c m r x = record {
@@ -50,8 +49,8 @@ module _ (p : Picture) (a : ℕ) (u : Task) (xs : List ℕ) (X Y : Excuse) where
       (λ d _. at_each (λ t w. status p t ≡ Terminated → w.status ≡ Terminated) p.task a u (λ z. absurd (n z)) (λ t _ z. z) d)
 
   -- where a was not queued, the arrivals may stay
-  pub one_arrived : Good p X → ((s e : ℕ) → status p a ≢ Queued s e) → (t : ℕ) → Member t p.arrivals → (s : ℕ) × (e : ℕ) × ((at p.task a u t).status ≡ Queued s e)
-  one_arrived g n = at_each (λ t w. Member t p.arrivals → (s : ℕ) × (e : ℕ) × (w.status ≡ Queued s e)) p.task a u
+  pub one_arrived : Good p X → ((s e : ℕ) → status p a ≢ Queued s e) → (t : ℕ) → Contains p.arrivals t → (s : ℕ) × (e : ℕ) × ((at p.task a u t).status ≡ Queued s e)
+  one_arrived g n = at_each (λ t w. Contains p.arrivals t → (s : ℕ) × (e : ℕ) × (w.status ≡ Queued s e)) p.task a u
       (λ m. absurd (n (g.arrived a m).0 (g.arrived a m).1 (g.arrived a m).2)) (λ t _ m. g.arrived t m)
 
   -- an engaged task other than a is engaged still
@@ -84,25 +83,25 @@ module _ (p : Picture) (g : Sound p) (a : ℕ) (r : Acts p a) where
   pub waits : (S : Status) (xs : List ℕ)
       → StatOf (next p (at p.task a (with_status (p.task a) S)) xs) no_excuse a (with_status (p.task a) S)
       → S ≢ Completed → S ≢ Terminated
-      → ((t : ℕ) → a ≢ t → Member t p.arrivals → Member t xs)
-      → ((t : ℕ) → Member t xs → (s : ℕ) × (e : ℕ) × ((at p.task a (with_status (p.task a) S) t).status ≡ Queued s e))
+      → ((t : ℕ) → a ≢ t → Contains p.arrivals t → Contains xs t)
+      → ((t : ℕ) → Contains xs t → (s : ℕ) × (e : ℕ) × ((at p.task a (with_status (p.task a) S) t).status ≡ Queued s e))
       → Sound (next p (at p.task a (with_status (p.task a) S)) xs)
   waits S xs h n₁ n₂ m k = let z = r.1 in moves p (at p.task a (with_status (p.task a) S)) xs (others a) no_excuse no_excuse g
       (one_move p a (with_status (p.task a) S) xs no_excuse no_excuse
-      (changed_status p a S xs no_excuse h (λ s e. clash (cc)) (λ e. clash (cc)) (λ _ _ _ _ _. (n₁, n₂)) (λ e. absurd (n₂ e)))
+      (changed_status p a S xs no_excuse h (λ s e. cc) (λ e. cc) (λ _ _ _ _ _. (n₁, n₂)) (λ e. absurd (n₂ e)))
       m k (λ t l _ x. x))
 
   pub good_waits_to_leave : (fs : List Frame) → frames p a ≡ Block ∷ fs → (Over p a (suc (length fs)) → ⊥) → Sound (mark p a Leaving)
   good_waits_to_leave fs e n = let z = r.1 in waits Leaving p.arrivals
-      (r.0, (fs, e, λ _ o. n (one_over_back p a (with_status (p.task a) Leaving) p.arrivals no_excuse no_excuse refl (λ y. clash (cc)) a (suc (length fs)) o)))
-      (λ y. clash (cc)) (λ y. clash (cc)) (λ t _ m. m)
-      (one_arrived p a (with_status (p.task a) Leaving) p.arrivals no_excuse no_excuse g (λ s e y. clash (cc)))
+      (r.0, (fs, e, λ _ o. n (one_over_back p a (with_status (p.task a) Leaving) p.arrivals no_excuse no_excuse refl (λ y. cc) a (suc (length fs)) o)))
+      (λ y. cc) (λ y. cc) (λ t _ m. m)
+      (one_arrived p a (with_status (p.task a) Leaving) p.arrivals no_excuse no_excuse g (λ s e y. cc))
 
   pub good_waits_to_accept : (mask : ℕ) → IsOpenSet (p.task a).entries mask → length (frames p a) < frame_room → Sound (mark p a (Accepting mask))
   good_waits_to_accept mask o f = let z = r.1 in waits (Accepting mask) p.arrivals
       (r.0, (o, f))
-      (λ y. clash (cc)) (λ y. clash (cc)) (λ t _ m. m)
-      (one_arrived p a (with_status (p.task a) (Accepting mask)) p.arrivals no_excuse no_excuse g (λ s e y. clash (cc)))
+      (λ y. cc) (λ y. cc) (λ t _ m. m)
+      (one_arrived p a (with_status (p.task a) (Accepting mask)) p.arrivals no_excuse no_excuse g (λ s e y. cc))
 
   pub good_queues : (s e : ℕ) → s < p.begun → e < (p.task s).entries → status p s ≢ Completed → status p s ≢ Terminated → Sound (join p a s e)
   good_queues s e b k n₁ n₂ = waits (Queued s e) (p.arrivals ++ (a ∷ [])) (
@@ -110,16 +109,16 @@ module _ (p : Picture) (g : Sound p) (a : ℕ) (r : Acts p a) where
     record {
       begun = b;
       entry = at_each (λ t w. e < (p.task t).entries → e < w.entries) p.task a u (λ h. h) (λ t _ h. h) s k;
-      open₁ = at_each (λ t w. status p t ≢ Completed → w.status ≢ Completed) p.task a u (λ h y. clash (cc)) (λ t _ h. h) s n₁;
-      open₂ = at_each (λ t w. status p t ≢ Terminated → w.status ≢ Terminated) p.task a u (λ h y. clash (cc)) (λ t _ h. h) s n₂;
-      arrived = member_last p.arrivals a;
+      open₁ = at_each (λ t w. status p t ≢ Completed → w.status ≢ Completed) p.task a u (λ h y. cc) (λ t _ h. h) s n₁;
+      open₂ = at_each (λ t w. status p t ≢ Terminated → w.status ≢ Terminated) p.task a u (λ h y. cc) (λ t _ h. h) s n₂;
+      arrived = Contains-push p.arrivals a;
     },
   )
-      (λ y. clash (cc)) (λ y. clash (cc))
-      (λ t _ m. member_more p.arrivals (a ∷ []) t m)
-      (at_each (λ t w. Member t (p.arrivals ++ (a ∷ [])) → (s : ℕ) × (e : ℕ) × (w.status ≡ Queued s e)) p.task a u
+      (λ y. cc) (λ y. cc)
+      (λ t _ m. Contains-append_left p.arrivals (a ∷ []) t m)
+      (at_each (λ t w. Contains (p.arrivals ++ (a ∷ [])) t → (s : ℕ) × (e : ℕ) × (w.status ≡ Queued s e)) p.task a u
       (λ m. (s, e, refl))
-      (λ t n m. elim (member_joined p.arrivals a t m) [ inl k ↦ g.arrived t k | inr y ↦ absurd (n (sym y)) ]))
+      (λ t n m. elim (Contains-push_cases p.arrivals a t m) [ inl k ↦ g.arrived t k | inr y ↦ absurd (n y) ]))
     where
       u : Task
       u = with_status (p.task a) (Queued s e)

@@ -9,7 +9,6 @@ use Rattle.rules.specs.declared.vocabulary.Outcome.{Outcome}
 use Rattle.rules.specs.declared.vocabulary.Status.{Status}
 use Rattle.rules.specs.declared.vocabulary.Status.TheVariants.{Accepting, Completed, Engaged, Leaving, NotBegun, Queued, Running, Terminated}
 use Rattle.rules.proofs.Basics.Masters.{same_master}
-use Rattle.rules.proofs.Basics.Statuses.{clash}
 use Rattle.rules.proofs.Invariant.Begin.{good_begins, sound_fresh}
 use Rattle.rules.proofs.Invariant.Blocks.{good_closes, good_opens}
 use Rattle.rules.proofs.Invariant.Finish.{good_completes, good_ends, good_master_ends, master_of}
@@ -44,7 +43,7 @@ module _ (p : Picture) (X : Excuse)
   }
 
 pub good_settles : {p : Picture} {t : ℕ} {q : Picture} → Good p (master_of p t) → Settles p t q → Sound q
-good_settles {p} {t} g (no_master e) = unexcused p (master_of p t) (λ s fs _ _ _ y. clash (cc)) (λ s l _ _ y. clash (cc)) g
+good_settles {p} {t} g (no_master e) = unexcused p (master_of p t) (λ s fs _ _ _ y. cc) (λ s l _ _ y. cc) g
 good_settles {p} {t} g (block_closes {m = m} {fs = fs} e z f o) = good_closes p (master_of p t) g m fs (stat_is g m Leaving z).0 (inr z) f o
     (λ s l n y. n (same_master (p.task t).master m (suc (length fs)) s l e y).0)
 good_settles {p} {t} g (master_ends {m = m} {l = l} e z o r) = good_settles (good_master_ends p t m l g e z o) r

@@ -1,16 +1,15 @@
 -- The invariant is kept when a rendezvous begins or ends: two tasks change.
-use Rattle.std.proofs.Common.{◌≡◌, ℕ, suc, ◌<◌, ◌≤◌, ◌≢◌, List, ◌∷◌, length, sym, refl, ap, ◌∙◌, subst, inl, inr, arith}
+use Rattle.std.proofs.Common.{◌≡◌, ℕ, suc, ◌<◌, ◌≤◌, ◌≢◌, List, ◌∷◌, length, Contains, sym, refl, ap, ◌∙◌, subst, inl, inr, arith}
 use native.Mathlib.Decide.{ℕ_discrete}
 use Rattle.rules.specs.Changes.{engage, leave_queue, part, with_frames, with_status}
 use Rattle.rules.specs.Limits.{frame_room}
-use Rattle.rules.specs.Picture.{at, frames, Member, Picture, status, Task, without}
+use Rattle.rules.specs.Picture.{at, frames, Picture, status, Task, without}
 use Rattle.rules.specs.Rules.{Acts, Takes}
 use Rattle.rules.specs.declared.vocabulary.Frame.{Frame}
 use Rattle.rules.specs.declared.vocabulary.Frame.TheVariants.{Block, Rendezvous}
 use Rattle.rules.specs.declared.vocabulary.Status.TheVariants.{Accepting, Engaged, Queued, Running, Terminated}
 use Rattle.rules.proofs.Basics.Frames.{Stands, stands_block, stands_low}
-use Rattle.rules.proofs.Basics.Queues.{member_without, taken, without_member}
-use Rattle.rules.proofs.Basics.Statuses.{clash}
+use Rattle.rules.proofs.Basics.Queues.{Contains-from_without, Contains-without, taken}
 use Rattle.rules.proofs.Basics.Tasks.{at_each, at_other, at_same}
 use Rattle.rules.proofs.Invariant.Change.{Changed, Move, moves, next}
 use Rattle.rules.proofs.Invariant.Good.{no_excuse, stat_is}
@@ -29,8 +28,8 @@ module _ (p : Picture) (i j : ℕ) (v w : Task) (xs : List ℕ) where
       (λ t n. at_each (λ t u. j ≢ t → P t u) p.task i v (λ _. x) (λ t m n. z t (m, n)) t n)
 
   pub two_move : Changed p (next p f xs) (bystander i j) no_excuse i v → Changed p (next p f xs) (bystander i j) no_excuse j w
-      → ((t : ℕ) → bystander i j t → Member t p.arrivals → Member t xs)
-      → ((t : ℕ) → Member t xs → (s : ℕ) × (e : ℕ) × ((f t).status ≡ Queued s e))
+      → ((t : ℕ) → bystander i j t → Contains p.arrivals t → Contains xs t)
+      → ((t : ℕ) → Contains xs t → (s : ℕ) × (e : ℕ) × ((f t).status ≡ Queued s e))
       → Move p f xs (bystander i j) no_excuse no_excuse
   two_move c d m r = record {
     kept = λ t k. at_other (at p.task i v) j w t k.1 ∙ at_other p.task i v t k.0;
@@ -51,8 +50,8 @@ module _ (p : Picture) (g : Sound p) (c a e : ℕ) (xs : List ℕ)
     (b : c < p.begun) (n₁ : (s : ℕ) → status p c ≢ Engaged s) (n₂ : status p c ≢ Terminated)
     (d : a < p.begun) (k₁ : (s : ℕ) → status p a ≢ Engaged s) (k₂ : status p a ≢ Terminated)
     (apart : c ≢ a) (room : length (frames p a) < frame_room)
-    (on : (t : ℕ) → bystander c a t → Member t p.arrivals → Member t xs)
-    (back : (t : ℕ) → Member t xs → Member t p.arrivals × bystander c a t) where
+    (on : (t : ℕ) → bystander c a t → Contains p.arrivals t → Contains xs t)
+    (back : (t : ℕ) → Contains xs t → Contains p.arrivals t × bystander c a t) where
   abbrev v : Task
   v = with_status (p.task c) (Engaged a)
 
@@ -95,10 +94,10 @@ module _ (p : Picture) (g : Sound p) (c a e : ℕ) (xs : List ℕ)
         frames = inl refl;
         hosts = λ l c e _ s. s;
         opened = λ l s. inr s;
-        serves = λ _ _ _ _ _. ((λ y. clash (cc)), (λ y. clash (cc)));
+        serves = λ _ _ _ _ _. ((λ y. cc), (λ y. cc));
         engages = λ s l f y _. absurd (n₁ s y);
         was = n₂;
-        ended = λ y. absurd (clash (cc));
+        ended = λ y. absurd (cc);
       })
       (record {
         is = w_is;
@@ -113,10 +112,10 @@ module _ (p : Picture) (g : Sound p) (c a e : ℕ) (xs : List ℕ)
         });
         hosts = λ l c e _ s. inr s;
         opened = λ l s. inr (inr s);
-        serves = λ _ _ _ _ _. ((λ y. clash (cc)), (λ y. clash (cc)));
+        serves = λ _ _ _ _ _. ((λ y. cc), (λ y. cc));
         engages = λ s l f y _. absurd (k₁ s y);
         was = k₂;
-        ended = λ y. absurd (clash (cc));
+        ended = λ y. absurd (cc);
       })
       on
       (λ t m. let h = back t m in
@@ -125,20 +124,20 @@ module _ (p : Picture) (g : Sound p) (c a e : ℕ) (xs : List ℕ)
 
 pub good_meets : (p : Picture) → Sound p → (a s e mask : ℕ) → Acts p a → s < p.begun → status p s ≡ Accepting mask
     → Sound (engage p a s e)
-good_meets p g a s e mask (b, z) d y = good_rendezvous p g a s e p.arrivals b (λ r x. clash (cc)) (λ x. clash (cc)) d (λ r x. clash (cc)) (λ x. clash (cc))
-    (λ x. let h = ap (status p) x in clash (cc)) (stat_is g s (Accepting mask) y).1.1
+good_meets p g a s e mask (b, z) d y = good_rendezvous p g a s e p.arrivals b (λ r x. cc) (λ x. cc) d (λ r x. cc) (λ x. cc)
+    (λ x. let h = ap (status p) x in cc) (stat_is g s (Accepting mask) y).1.1
     (λ t _ m. m)
-    (λ t m. let (r, f, h) = g.arrived t m in (m, ((λ x. let k = ap (status p) x in clash (cc)), (λ x. let k = ap (status p) x in clash (cc)))))
+    (λ t m. let (r, f, h) = g.arrived t m in (m, ((λ x. let k = ap (status p) x in cc), (λ x. let k = ap (status p) x in cc))))
 
 pub good_takes : (p : Picture) → Sound p → (a mask c e : ℕ) → Acts p a → length (frames p a) < frame_room → Takes p a mask c e
     → Sound (engage (leave_queue p c) c a e)
 good_takes p g a mask c e (d, z) n k =
     let y = taken p a mask c e k in
-    good_rendezvous p g c a e (without c p.arrivals) (stat_is g c (Queued a e) y).0 (λ r x. clash (cc)) (λ x. clash (cc)) d (λ r x. clash (cc)) (λ x. clash (cc))
-    (λ x. let h = ap (status p) x in clash (cc)) n
-    (λ t h m. member_without p.arrivals c t h.0 m)
-    (λ t m. let h = without_member p.arrivals c t m in let (r, f, i) = g.arrived t h.0 in
-    (h.0, (h.1, (λ x. let j = ap (status p) x in clash (cc)))))
+    good_rendezvous p g c a e (without c p.arrivals) (stat_is g c (Queued a e) y).0 (λ r x. cc) (λ x. cc) d (λ r x. cc) (λ x. cc)
+    (λ x. let h = ap (status p) x in cc) n
+    (λ t h m. Contains-without p.arrivals c t h.0 m)
+    (λ t m. let h = Contains-from_without p.arrivals c t m in let (r, f, i) = g.arrived t h.0 in
+    (h.0, (h.1, (λ x. let j = ap (status p) x in cc))))
 
 -- a ends its innermost rendezvous, with c
 module _ (p : Picture) (g : Sound p) (a c e : ℕ) (fs : List Frame) (r : Acts p a) (i : frames p a ≡ Rendezvous c e ∷ fs) where
@@ -161,7 +160,7 @@ module _ (p : Picture) (g : Sound p) (a c e : ℕ) (fs : List Frame) (r : Acts p
   caller = (g.framed a).framed (suc (length fs)) c e top
 
   apart₂ : a ≢ c
-  apart₂ x = let h = ap (status p) x in let y = caller in let z = r.1 in clash (cc)
+  apart₂ x = let h = ap (status p) x in let y = caller in let z = r.1 in cc
 
   old₂ : at p.task a w₂ c ≡ p.task c
   old₂ = at_other p.task a w₂ c apart₂
@@ -178,7 +177,7 @@ module _ (p : Picture) (g : Sound p) (a c e : ℕ) (fs : List Frame) (r : Acts p
 
   parted_framed : (l t f : ℕ) → Stands fs l (Rendezvous t f) → status q₂ t ≡ Engaged a
   parted_framed l t f s = two_each p a c w₂ v₂ p.arrivals (λ t u. status p t ≡ Engaged a → Stands fs l (Rendezvous t f) → u.status ≡ Engaged a)
-      (λ x _. let z = r.1 in absurd (clash (cc))) (λ _ x. absurd (only l f x)) (λ _ _ z _. z) t
+      (λ x _. let z = r.1 in absurd (cc)) (λ _ x. absurd (only l f x)) (λ _ _ z _. z) t
       ((g.framed a).framed l t f (inside l (Rendezvous t f) s)) s
 
   parted_hosts : (l t f : ℕ) → c ≢ t → Stands (Rendezvous c e ∷ fs) l (Rendezvous t f) → Stands fs l (Rendezvous t f)
@@ -205,10 +204,10 @@ module _ (p : Picture) (g : Sound p) (a c e : ℕ) (fs : List Frame) (r : Acts p
         });
         hosts = λ l t f k s. parted_hosts l t f k.1 (rw i at s);
         opened = λ l s. inr (stands_block fs l c e (rw i at s));
-        serves = λ _ _ _ _ _. ((λ y. clash (cc)), (λ y. clash (cc)));
-        engages = λ s l f y _. let z = r.1 in absurd (clash (cc));
-        was = λ y. let z = r.1 in clash (cc);
-        ended = λ y. absurd (clash (cc));
+        serves = λ _ _ _ _ _. ((λ y. cc), (λ y. cc));
+        engages = λ s l f y _. let z = r.1 in absurd (cc);
+        was = λ y. let z = r.1 in cc;
+        ended = λ y. absurd (cc);
       })
       (record {
         is = v₂_is;
@@ -218,15 +217,15 @@ module _ (p : Picture) (g : Sound p) (a c e : ℕ) (fs : List Frame) (r : Acts p
         frames = inl (ap (λ u. u.frames) old₂);
         hosts = λ l t f _ s. subst (λ u. Stands u.frames l (Rendezvous t f)) (sym old₂) s;
         opened = λ l s. inr (subst (λ u. Stands u.frames l Block) (sym old₂) s);
-        serves = λ _ _ _ _ _. ((λ y. clash (cc)), (λ y. clash (cc)));
+        serves = λ _ _ _ _ _. ((λ y. cc), (λ y. cc));
         engages = λ s l f y h. absurd (parted_engages s l f y h);
-        was = λ y. let z = caller in clash (cc);
-        ended = λ y. absurd (clash (cc));
+        was = λ y. let z = caller in cc;
+        ended = λ y. absurd (cc);
       })
       (λ t _ m. m)
       (λ t m. let (s, f, h) = g.arrived t m in (
         s,
         f,
         two_each p a c w₂ v₂ p.arrivals (λ t u. status p t ≡ Queued s f → u.status ≡ Queued s f)
-            (λ x. let z = r.1 in absurd (clash (cc))) (λ x. let z = caller in absurd (clash (cc))) (λ _ _ z. z) t h,
+            (λ x. let z = r.1 in absurd (cc)) (λ x. let z = caller in absurd (cc)) (λ _ _ z. z) t h,
       )))

@@ -1,11 +1,12 @@
 -- Judging: the points that follow, taken in one by one, leave out the largest shut set. So every picture has one.
-use Rattle.std.proofs.Common.{◌≡◌, ℕ, zero, suc, ◌+◌, ◌<◌, ◌≤◌, Bool, true, false, T, sym, refl, ap, ◌∙◌, inl, inr, arith, T_not}
+use Rattle.std.proofs.Common.{◌≡◌, ℕ, zero, suc, ◌+◌, ◌<◌, ◌≤◌, Bool, true, false, T, refl, ap, ◌∙◌, inl, inr, arith, T_not}
 use native.Mathlib.Decide.{dec_lt, ℕ_discrete}
 use lib.Dec.{not_T}
 use Rattle.rules.specs.Book.{Inside, LargestShutPoints, Named, outside, Points}
 use Rattle.rules.specs.Picture.{at, Picture, status}
+use Rattle.rules.specs.Theorems.{LargestShutSetsExist}
 use Rattle.rules.proofs.Basics.Decide.{dec_not, dec_T, find, Found, not_not, sure}
-use Rattle.rules.proofs.Basics.Statuses.{clash, dec_terminated}
+use Rattle.rules.proofs.Basics.Statuses.{dec_terminated}
 use Rattle.rules.proofs.Basics.Tasks.{at_each, at_same}
 use Rattle.rules.proofs.Basics.Totals.{total, total_less}
 use Rattle.rules.proofs.Judging.Decide.{dec_new_end, dec_new_run, NewEnd, NewRun}
@@ -39,7 +40,7 @@ missing o t = lacks (o.runs t) + lacks (o.ends t)
 
 lacks_in : (b : Bool) → lacks b ≡ 0 → T b
 lacks_in true e = tt
-lacks_in false e = absurd (clash (sym e))
+lacks_in false e = absurd (omega (arith, e))
 
 lacks_out : (b : Bool) → (T b → ⊥) → lacks b ≡ 1
 lacks_out true n = absurd (n tt)
@@ -144,6 +145,10 @@ judged_largest p = record {
 
     closed : Closed p (reached p)
     closed = grown_closed p (total (missing no_points) p.begun) no_points (omega arith)
+
+-- so every picture has one
+pub largest_shut_sets_exist : LargestShutSetsExist
+largest_shut_sets_exist p = (judged p, judged_largest p)
 
 unfoldable pub dec_named : (p : Picture) (t : ℕ) → Dec (Named p (judged p) t)
 unfolding dec_lt dec_not dec_terminated dec_T judged

@@ -11,7 +11,6 @@ use Rattle.rules.specs.declared.vocabulary.Action.TheVariants.{Accept, Begin, Ca
 use Rattle.rules.specs.declared.vocabulary.Event.{Event}
 use Rattle.rules.specs.declared.vocabulary.Status.{Status}
 use Rattle.rules.specs.declared.vocabulary.Status.TheVariants.{Accepting, Completed, Engaged, Leaving, NotBegun, Queued, Running, Terminated}
-use Rattle.rules.proofs.Basics.Statuses.{clash}
 use Rattle.rules.proofs.Basics.Tasks.{at_each, at_other, at_same}
 use Rattle.rules.proofs.Invariant.Good.{not_begun}
 use Rattle.rules.proofs.Invariant.Sound.{engaged, queued, Sound}
@@ -44,7 +43,7 @@ module _ (p : Picture) (s : Points) (a : ℕ) (k : Sound p) (acts : Acts p a) (c
   widen_run t Running e h = h
   widen_run t (Queued r f) e h = out_back s.runs p.begun r (queued k t r f e).begun h
   widen_run t (Engaged r) e h = (out_back s.runs p.begun r (engaged k t r e).0 h.0, widen_dependents r (InsideRendezvous p r t) h.1)
-  widen_run t (Accepting m) e h = (a, acts_few k acts, (λ i. let j = acts.1 in clash (cc)), acts_runs c a acts)
+  widen_run t (Accepting m) e h = (a, acts_few k acts, (λ i. let j = acts.1 in cc), acts_runs c a acts)
   widen_run t Leaving e h = widen_dependents t (Innermost p t) h
   widen_run t Completed e h = h
   widen_run t Terminated e h = h
@@ -97,7 +96,7 @@ module _ (p : Picture) (a n : ℕ) (k : Sound p) where
         | inr b ↦ let j = h.0 in let i : p.begun ≡ d = omega arith in inl (subst (λ y. T (o.ends y)) i child_ends)
       ];
       fates = λ x _. at_each (λ j w. Fate o j w (p.task j)) p.task p.begun (new_task p a n)
-          (woken child_runs (λ e. clash (cc)) (λ e. let f = ap phase (not_begun k p.begun (omega arith)).0 in clash (cc))) (λ j _. same refl refl) x;
+          (woken child_runs (λ e. cc) (λ e. let f = ap phase (not_begun k p.begun (omega arith)).0 in cc)) (λ j _. same refl refl) x;
       rendezvous = λ x r _ e. sym (birth_rendezvous x r e);
     }
 

@@ -14,7 +14,6 @@ use Rattle.rules.specs.declared.vocabulary.Outcome.TheVariants.{Terminated as En
 use Rattle.rules.specs.declared.vocabulary.Status.TheVariants.{Accepting, Completed, Engaged, Leaving, Queued, Running}
 use Rattle.rules.proofs.Basics.Frames.{rendezvous_here, stands_low}
 use Rattle.rules.proofs.Basics.Queues.{taken}
-use Rattle.rules.proofs.Basics.Statuses.{clash}
 use Rattle.rules.proofs.Basics.Tasks.{at_other, frames_same, status_same, status_under}
 use Rattle.rules.proofs.Invariant.Sound.{framed_here, Sound}
 use Rattle.rules.proofs.NamedStayDead.Begin.{birth_back, birth_keeps, drop_points, fewer, out_here, widened}
@@ -52,19 +51,19 @@ closed_step s k c (waits_to_leave {p} {a} acts _ _) =
 closed_step s k c (errs _ _ _ _) = c
 closed_step s k c (meets {p} {a} {s = b} {e} {mask} acts h _ g _) =
     sways_forth (meets_sways p (outside s) a b e mask acts.1 g (acts_runs c a acts)
-    (run_by c b (Accepting mask) h g (a, acts_few k acts, (λ i. let j = acts.1 in clash (cc)), acts_runs c a acts))) c
+    (run_by c b (Accepting mask) h g (a, acts_few k acts, (λ i. let j = acts.1 in cc), acts_runs c a acts))) c
 closed_step s k c (queues {p} {a} {s = b} {e} acts _ _ _ _ _) =
     sways_forth (mark_sways p (outside s) a (Queued b e) (join p a b e).arrivals (live_by (status p a) Running acts.1 tt) tt (acts_runs c a acts)) c
 closed_step s k c (takes {p} {a} {mask} {c = b} {e} acts _ _ h) =
     let g = taken p a mask b e h in
     sways_forth (takes_sways p (outside s) a b e acts.1 g (acts_runs c a acts)
-    (run_by c b (Queued a e) (in_range p k b (λ i. clash (cc))) g (acts_runs c a acts))) c
+    (run_by c b (Queued a e) (in_range p k b (λ i. cc)) g (acts_runs c a acts))) c
 closed_step s k c (waits_to_accept {p} {a} {mask} acts _ _ _) =
     sways_forth (mark_sways p (outside s) a (Accepting mask) p.arrivals (live_by (status p a) Running acts.1 tt) tt (acts_runs c a acts)) c
 closed_step s k c (ends_rendezvous {p} {a} {c = b} {e} {fs} acts f) =
     let g = framed_here k a b e fs f in
     sways_forth (ends_rendezvous_sways p (outside s) a b e fs acts.1 g f (acts_runs c a acts)
-    (engaged_runs k c b a e fs (in_range p k b (λ i. clash (cc))) g f (acts_runs c a acts))) c
+    (engaged_runs k c b a e fs (in_range p k b (λ i. cc)) g f (acts_runs c a acts))) c
 closed_step s k c (completes {p} {a} acts _ _) =
     sways_forth (mark_sways (dismiss p a) (outside s) a Completed (dismiss p a).arrivals (finish_live p a acts.1) tt (acts_runs c a acts))
     (sways_forth (dismiss_sways p (outside s) (in_range p k) c a (acts_runs c a acts)) c)
@@ -96,7 +95,7 @@ actor_runs o k l (meets {p} {a} {s} {e} acts h _ i _) g c =
     let u = with_status (p.task a) (Engaged s) in
     let v = with_frames (with_status ((mark p a (Engaged s)).task s) Running) (Rendezvous a e ∷ frames p s) in
     engaged_runs l c a s e (frames p s) acts.0
-    (status_under p.task a s u v (λ j. let m = acts.1 in clash (cc))) (frames_same (mark p a (Engaged s)).task s v)
+    (status_under p.task a s u v (λ j. let m = acts.1 in cc)) (frames_same (mark p a (Engaged s)).task s v)
     (run_by c s Running h (status_same (mark p a (Engaged s)).task s v) tt)
 actor_runs o k l (queues _ _ _ _ _ _) g c = absurd (g.0 refl)
 actor_runs o k l (takes {p} {a} {c = b} {e} acts _ _ _) g c =
@@ -107,7 +106,7 @@ actor_runs o k l (ends_rendezvous {p} {a} {c = b} {e} {fs} acts f) g c =
     let i = framed_here k a b e fs f in
     let u = with_frames (with_status (p.task a) Running) fs in
     let v = with_status ((turn p a Running fs).task b) Running in
-    run_by c a Running acts.0 (status_under p.task a b u v (λ j. let m = acts.1 in clash (cc))) tt
+    run_by c a Running acts.0 (status_under p.task a b u v (λ j. let m = acts.1 in cc)) tt
 actor_runs o k l (completes _ _ _) g c = absurd (g.0 refl)
 actor_runs o k l (ends _ _ _ _) g c = absurd (g.1 refl)
 
@@ -133,31 +132,31 @@ closed_back o k l (takes {p} {a} {mask} {c = b} {e} acts _ _ h) g r c =
     let u = with_status (p.task b) (Engaged a) in
     let w = (mark (leave_queue p b) b (Engaged a)).task in
     let v = with_frames (with_status (w a) Running) (Rendezvous b e ∷ frames p a) in
-    let rb : T (o.runs b) = engaged_runs l c b a e (frames p a) (in_range p k b (λ j. clash (cc i)))
-    (status_under p.task b a u v (λ j. let m = acts.1 in clash (cc))) (frames_same w a v) r in
+    let rb : T (o.runs b) = engaged_runs l c b a e (frames p a) (in_range p k b (λ j. cc i))
+    (status_under p.task b a u v (λ j. let m = acts.1 in cc)) (frames_same w a v) r in
     sways_back (takes_sways p o a b e acts.1 i r rb) c
 closed_back o k l (waits_to_accept {p} {a} {mask} acts _ _ _) g r c =
     sways_back (mark_sways p o a (Accepting mask) p.arrivals (live_by (status p a) Running acts.1 tt) tt r) c
 closed_back o k l (ends_rendezvous {p} {a} {c = b} {e} {fs} acts f) g r c =
     let i = framed_here k a b e fs f in
     let v = with_status ((turn p a Running fs).task b) Running in
-    let rb : T (o.runs b) = run_by c b Running (in_range p k b (λ j. clash (cc i))) (status_same (turn p a Running fs).task b v) tt in
+    let rb : T (o.runs b) = run_by c b Running (in_range p k b (λ j. cc i)) (status_same (turn p a Running fs).task b v) tt in
     sways_back (ends_rendezvous_sways p o a b e fs acts.1 i f r rb) c
 closed_back o k l (completes _ _ _) g r c = absurd (g refl)
 closed_back o k l (ends _ _ _ _) g r c = absurd (g refl)
 
 -- an event with such an outcome does not finish its actor
 not_finished : {p q : Picture} {v : Event} {n : Outcome} → Step p v n q → GoesOnAfter n → v.action ≢ Finish
-not_finished (begins _ _ _) g e = clash (cc)
-not_finished (opens _ _) g e = clash (cc)
-not_finished (leaves _ _ _) g e = clash (cc)
-not_finished (waits_to_leave _ _ _) g e = clash (cc)
-not_finished (errs _ _ _ _) g e = clash (cc)
-not_finished (meets _ _ _ _ _) g e = clash (cc)
-not_finished (queues _ _ _ _ _ _) g e = clash (cc)
-not_finished (takes _ _ _ _) g e = clash (cc)
-not_finished (waits_to_accept _ _ _ _) g e = clash (cc)
-not_finished (ends_rendezvous _ _) g e = clash (cc)
+not_finished (begins _ _ _) g e = (cc)
+not_finished (opens _ _) g e = (cc)
+not_finished (leaves _ _ _) g e = (cc)
+not_finished (waits_to_leave _ _ _) g e = (cc)
+not_finished (errs _ _ _ _) g e = (cc)
+not_finished (meets _ _ _ _ _) g e = (cc)
+not_finished (queues _ _ _ _ _ _) g e = (cc)
+not_finished (takes _ _ _ _) g e = (cc)
+not_finished (waits_to_accept _ _ _ _) g e = (cc)
+not_finished (ends_rendezvous _ _) g e = (cc)
 not_finished (completes _ _ _) g e = g.0 refl
 not_finished (ends _ _ _ _) g e = g.1 refl
 

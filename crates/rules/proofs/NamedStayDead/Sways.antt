@@ -12,7 +12,6 @@ use Rattle.rules.specs.declared.vocabulary.Status.{Status}
 use Rattle.rules.specs.declared.vocabulary.Status.TheVariants.{Accepting, Engaged, NotBegun, Queued, Running, Terminated}
 use Rattle.rules.proofs.Basics.Frames.{rendezvous_there}
 use Rattle.rules.proofs.Basics.Masters.{free_back, free_on}
-use Rattle.rules.proofs.Basics.Statuses.{clash}
 use Rattle.rules.proofs.Basics.Tasks.{at_each, at_same, put_master}
 use Rattle.rules.proofs.Invariant.Sound.{begun_of, Sound}
 use Rattle.rules.proofs.NamedStayDead.Closed.{Closed, closed_kept, Fate, Keeps, same, woken}
@@ -139,7 +138,7 @@ meets_sways p o a s e mask f g r h =
     two_sways p a (with_status (p.task a) (Engaged s)) s
     (with_frames (with_status ((mark p a (Engaged s)).task s) Running) (Rendezvous a e ∷ frames p s)) p.arrivals o refl refl
     (turns r (live_by (status p a) Running f tt) tt) (turns h (live_by (status p s) (Accepting mask) g tt) tt)
-    (λ x r k _. (refl, rendezvous_there x a e (frames p s) (λ i. clash (cc))))
+    (λ x r k _. (refl, rendezvous_there x a e (frames p s) (λ i. cc)))
 
 pub takes_sways : (p : Picture) (o : Points) (a c e : ℕ) → status p a ≡ Running → status p c ≡ Queued a e → T (o.runs a) → T (o.runs c)
     → Sways p (engage (leave_queue p c) c a e) o
@@ -147,7 +146,7 @@ takes_sways p o a c e f g r h =
     two_sways p c (with_status (p.task c) (Engaged a)) a
     (with_frames (with_status ((mark (leave_queue p c) c (Engaged a)).task a) Running) (Rendezvous c e ∷ frames p a)) (leave_queue p c).arrivals o refl refl
     (turns h (live_by (status p c) (Queued a e) g tt) tt) (turns r (live_by (status p a) Running f tt) tt)
-    (λ x r k _. (refl, rendezvous_there x c e (frames p a) (λ i. clash (cc))))
+    (λ x r k _. (refl, rendezvous_there x c e (frames p a) (λ i. cc)))
 
 pub ends_rendezvous_sways : (p : Picture) (o : Points) (a c e : ℕ) (fs : List Frame) → status p a ≡ Running → status p c ≡ Engaged a
     → frames p a ≡ Rendezvous c e ∷ fs → T (o.runs a) → T (o.runs c)
@@ -162,7 +161,7 @@ ends_rendezvous_sways p o a c e fs f g h r k =
     other : (x r : ℕ) → status q x ≡ Engaged r → c ≢ x
     other x r m i =
         let j : status q c ≡ Running = ap (λ (t : Task). t.status) (at_same (turn p a Running fs).task c (with_status ((turn p a Running fs).task c) Running)) in
-        let l : status q c ≡ Engaged r = ap (status q) i ∙ m in clash (cc)
+        let l : status q c ≡ Engaged r = ap (status q) i ∙ m in cc
 
     apart : (x r : ℕ) → status p x ≡ Engaged r → status q x ≡ Engaged r
         → (rendezvous_level x fs ≡ rendezvous_level x (frames p a)) × (rendezvous_level x ((turn p a Running fs).task c).frames ≡ rendezvous_level x (frames p c))

@@ -6,7 +6,7 @@ use Rattle.std.proofs.lemmas.Bool.{and_from, eq-eqb}
 use Rattle.rules.specs.Changes.{close, engage, leave_queue, let_go, mark, part, turn}
 use Rattle.rules.specs.Events.{◌does◌}
 use Rattle.rules.specs.Limits.{frame_room}
-use Rattle.rules.specs.Picture.{frames, Over, Picture, queued_at, status, Task}
+use Rattle.rules.specs.Picture.{frames, Over, Picture, queue, queued_at, status, Task}
 use Rattle.rules.specs.Rules.{In, Step, Steps}
 use Rattle.rules.specs.Rules.Step.{ends_rendezvous, leaves, meets, takes}
 use Rattle.rules.specs.Rules.Steps.{more, none}
@@ -18,7 +18,7 @@ use Rattle.rules.specs.declared.vocabulary.Outcome.TheVariants.{GoesOn}
 use Rattle.rules.specs.declared.vocabulary.Status.{Status}
 use Rattle.rules.specs.declared.vocabulary.Status.TheVariants.{Accepting, Completed, Engaged, Leaving, NotBegun, Queued, Running, Terminated}
 use Rattle.rules.proofs.Basics.Masks.{bit_of, in_lower, in_own}
-use Rattle.rules.proofs.Basics.Queues.{keep_has, keep_head, KeptOne, queued_at_is}
+use Rattle.rules.proofs.Basics.Queues.{Contains-filter, filter_head, has_head, HasHead, queued_at_is}
 use Rattle.rules.proofs.Basics.Statuses.{apart}
 use Rattle.rules.proofs.Basics.Tasks.{mark_frames, mark_master, mark_other, mark_status, turn_frames, turn_master, turn_other, turn_status}
 use Rattle.rules.proofs.Cascade.{closes_master}
@@ -194,7 +194,7 @@ eased_queue p q c z = record { begun = z.begun; master = z.master; turned = z.tu
     go d (inr g) = inr (record { bare = g.bare; deserted = g.deserted; awake = g.awake })
 
 pub serve : (p : Picture) → Sound p → (a x e : ℕ) → status p a ≡ Running → status p x ≡ Queued a e → length (frames p a) < frame_room → Move p
-serve p snd a x e run que room = go (keep_has (λ t. queued_at a e (status p t)) x p.arrivals (queued snd x a e que).arrived here)
+serve p snd a x e run que room = go (has_head (queue p a e) x (Contains-filter (λ t. queued_at a e (status p t)) p.arrivals x here (queued snd x a e que).arrived))
   where
     here : queued_at a e (status p x) ≡ true
     here = ap (queued_at a e) que ∙ and_from (eqb a a) (eqb e e) (eq-eqb a a refl) (eq-eqb e e refl)
@@ -202,7 +202,7 @@ serve p snd a x e run que room = go (keep_has (λ t. queued_at a e (status p t))
     ba : a < p.begun
     ba = begun_as snd a run tt
 
-    go : KeptOne (λ t. queued_at a e (status p t)) p.arrivals → Move p
+    go : HasHead (queue p a e) → Move p
     go (c, rest, head) = record {
       after = q;
       events = (a does Accept (2 ^ e)) ∷ ((a does EndRendezvous) ∷ []);
@@ -221,7 +221,7 @@ serve p snd a x e run que room = go (keep_has (λ t. queued_at a e (status p t))
         q = visited p₀ a c e
 
         callers : status p c ≡ Queued a e
-        callers = queued_at_is a e (status p c) (keep_head (λ t. queued_at a e (status p t)) p.arrivals c rest head)
+        callers = queued_at_is a e (status p c) (filter_head (λ t. queued_at a e (status p t)) p.arrivals c rest head)
 
         ac : a ≡ c → ⊥
         ac h = apart (sym run ∙ (ap (status p) h ∙ callers)) tt

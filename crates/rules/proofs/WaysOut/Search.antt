@@ -23,11 +23,6 @@ IsAccepting s = (mask : ℕ) × (s ≡ Accepting mask)
 dec_accepting : (s : Status) → Dec (IsAccepting s)
 dec_accepting s = elim (dec_kind s 4) [ yes e ↦ yes (first_of s, of_kind s 4 e) | no n ↦ no (λ h. n (ap kind h.1)) ]
 
-abbrev fkind : List Frame → ℕ
-fkind [] = 0
-fkind (Block ∷ _) = 1
-fkind (Rendezvous _ _ ∷ _) = 2
-
 abbrev tail : List Frame → List Frame
 tail [] = []
 tail (_ ∷ fs) = fs
@@ -36,8 +31,8 @@ abbrev Met : Status → List Frame → Type 0
 Met s gs = (s ≡ Running) × ((c : ℕ) × (e : ℕ) × (fs : List Frame) × (gs ≡ Rendezvous c e ∷ fs))
 
 dec_met : (s : Status) (gs : List Frame) → Dec (Met s gs)
-dec_met s [] = no (λ h. let z = ap fkind h.1.3 in omega arith)
-dec_met s (Block ∷ fs) = no (λ h. let z = ap fkind h.1.3 in omega arith)
+dec_met s [] = no (λ h. let e = h.1.3 in cc)
+dec_met s (Block ∷ fs) = no (λ h. let e = h.1.3 in cc)
 dec_met s (Rendezvous c e ∷ fs) = go (dec_running s)
   where
     go : Dec (s ≡ Running) → Dec (Met s (Rendezvous c e ∷ fs))
@@ -60,8 +55,8 @@ abbrev Leavable : Picture → ℕ → List Frame → Type 0
 Leavable p a gs = (status p a ≡ Running) × ((fs : List Frame) × (gs ≡ Block ∷ fs) × Over p a (suc (length fs)))
 
 dec_leavable : (p : Picture) (a : ℕ) (gs : List Frame) → Dec (Leavable p a gs)
-dec_leavable p a [] = no (λ h. let z = ap fkind h.1.1 in omega arith)
-dec_leavable p a (Rendezvous _ _ ∷ _) = no (λ h. let z = ap fkind h.1.1 in omega arith)
+dec_leavable p a [] = no (λ h. let e = h.1.1 in cc)
+dec_leavable p a (Rendezvous _ _ ∷ _) = no (λ h. let e = h.1.1 in cc)
 dec_leavable p a (Block ∷ fs) = go (dec_running (status p a)) (dec_over p a (suc (length fs)))
   where
     go : Dec (status p a ≡ Running) → Dec (Over p a (suc (length fs))) → Dec (Leavable p a (Block ∷ fs))
@@ -73,8 +68,8 @@ abbrev Idle : Status → List Frame → Type 0
 Idle s gs = (s ≡ Running) × (gs ≡ [])
 
 dec_idle : (s : Status) (gs : List Frame) → Dec (Idle s gs)
-dec_idle s (Block ∷ _) = no (λ h. let z = ap fkind h.1 in omega arith)
-dec_idle s (Rendezvous _ _ ∷ _) = no (λ h. let z = ap fkind h.1 in omega arith)
+dec_idle s (Block ∷ _) = no (λ h. let e = h.1 in cc)
+dec_idle s (Rendezvous _ _ ∷ _) = no (λ h. let e = h.1 in cc)
 dec_idle s [] = go (dec_running s)
   where
     go : Dec (s ≡ Running) → Dec (Idle s [])
@@ -86,19 +81,14 @@ module _ (p : Picture) (snd : Sound p) where
   ran a h = begun_as snd a h tt
 
   -- with no rendezvous innermost there is room for one
-  room : (a : ℕ) (gs : List Frame) → frames p a ≡ gs → (fkind gs ≡ 2 → ⊥) → length (frames p a) < frame_room
+  room : (a : ℕ) (gs : List Frame) → frames p a ≡ gs → ((c k : ℕ) (fs : List Frame) → gs ≡ Rendezvous c k ∷ fs → ⊥) → length (frames p a) < frame_room
   room a [] e n = omega (arith, ap length e, blocks_fit)
   room a (Block ∷ fs) e n = omega (arith, ap length e, blocks_fit, (snd.framed a).blocks (suc (length fs)) (subst (λ (gs : List Frame). Stands gs (suc (length fs)) Block) (sym e) (inl (refl, refl))))
-  room a (Rendezvous _ _ ∷ fs) e n = absurd (n refl)
-
-  no_met : ((x : ℕ) → x < p.begun → Met (status p x) (frames p x) → ⊥) → (a : ℕ) → status p a ≡ Running → (gs : List Frame) → frames p a ≡ gs → fkind gs ≡ 2 → ⊥
-  no_met f a r [] e z = omega arith
-  no_met f a r (Block ∷ fs) e z = omega arith
-  no_met f a r (Rendezvous c k ∷ fs) e z = f a (ran a r) (r, (c, k, fs, e))
+  room a (Rendezvous c k ∷ fs) e n = absurd (n c k fs refl)
 
   last : ((x : ℕ) → x < p.begun → IsAccepting (status p x) → ⊥) → ((x : ℕ) → x < p.begun → Met (status p x) (frames p x) → ⊥)
       → Found p.begun (λ x. Called p (status p x)) → Found p.begun (λ a. Leavable p a (frames p a)) → Found p.begun (λ a. Idle (status p a) (frames p a)) → Move p ⊎ Stuck p
-  last na nm (inl (x, b, (a, e, h, r))) _ _ = inl (serve p snd a x e r h (room a (frames p a) refl (no_met nm a r (frames p a) refl)))
+  last na nm (inl (x, b, (a, e, h, r))) _ _ = inl (serve p snd a x e r h (room a (frames p a) refl (λ c k fs z. nm a (ran a r) (r, (c, k, fs, z)))))
   last na nm (inr nc) (inl (a, b, (r, (fs, h, o)))) _ = inl (leave p snd a fs r h o)
   last na nm (inr nc) (inr nl) (inl (a, b, (r, h))) = inl (finish p snd a r h (λ x mask e. na x (begun_as snd x e tt) (mask, e)))
   last na nm (inr nc) (inr nl) (inr ni) = inr (record {

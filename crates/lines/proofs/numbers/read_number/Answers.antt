@@ -29,10 +29,6 @@ pub overflow_mul-n : goal.overflow_mul-n
 overflow_mul-n c =
     omega (arith, c.loop-b.invariant.1, so_far_lt c.args.s.now c.loop-b.b-index 2 c.loop-b.invariant.0 (omega arith) (omega arith))
 
-pub overflow_add-n : goal.overflow_add-n
-overflow_add-n c =
-    omega (arith, c.loop-b.invariant.1, so_far_lt c.args.s.now c.loop-b.b-index 2 c.loop-b.invariant.0 (omega arith) (omega arith))
-
 pub loop-b-preserved : goal.loop-b-preserved
 loop-b-preserved c =
     let s = c.args.s.now in

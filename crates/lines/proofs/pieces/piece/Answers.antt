@@ -1,24 +1,18 @@
-use Rattle.std.proofs.Common.{◌≡◌, [], get_or, sym, ap, ◌∙◌, arith}
-use Rattle.std.proofs.lemmas.Option.{MatchOption-at_none, MatchOption-at_some}
-use Rattle.lines.specs.Pieces.{pieces}
-use Rattle.lines.proofs.Cuts.{pieces_front, pieces_single, piece_here, piece_next, piece_past, pieces_first}
+use Rattle.std.proofs.Common.{rules, tests, ◌≡◌, ℕ, eqb, List, [], get_or, None, Some, Option, refl, ap, ◌∙◌, Bor}
+use Rattle.std.specs.Option.{option_map, unwrap_or}
+use Rattle.std.specs.List.{slice_get}
+use Rattle.std.proofs.lemmas.Option.{unwrap_or-slice_get}
+use Rattle.std.proofs.lemmas.Iterator.Splits.{YieldsList-from_slice_split}
+use Rattle.std.proofs.lemmas.Iterator.Consumers.{nth_from_yields_List}
 use Rattle.lines.proofs.pieces.piece.Goals as goal
 
-pub returns-in_default-None : goal.returns-in_default-None
-returns-in_default-None c =
-    let told = c.cut.ensures in
-    let whole = MatchOption-at_none _ _ c.in_default-None.is-1 told.1 in
-    piece_past _ _ _ _ (sym (ap (pieces c.args.sep) whole ∙ pieces_single _ _ told.0) ∙ c.loop-i.invariant) c.loop-i-test.true
-
-pub loop-i-preserved : goal.loop-i-preserved
-loop-i-preserved c =
-    let told = c.cut.ensures in
-    let parts = MatchOption-at_some _ _ _ c.in_default-Some.is-1 told.1 in
-    piece_next (pieces c.args.sep c.args.s.now) _ _ c.loop-i.i (sym (ap (pieces c.args.sep) parts ∙ pieces_front _ _ _ told.0) ∙ c.loop-i.invariant)
+-- the piece at k, or else what is empty
+piece_or_empty : (r : Option (Bor (List ℕ))) (e : Bor (List ℕ)) (ps : List (List ℕ)) (k : ℕ) → option_map (λ x. x.now) r ≡ slice_get ps k → e.now ≡ [] → (unwrap_or r e).now ≡ get_or ps k []
+piece_or_empty None e ps k at empty = empty ∙ ap (λ o. unwrap_or o []) at ∙ unwrap_or-slice_get ps k []
+piece_or_empty (Some x) e ps k at empty = ap (λ o. unwrap_or o []) at ∙ unwrap_or-slice_get ps k []
 
 pub returns : goal.returns
 returns c =
-    let ps = pieces c.args.sep c.args.s.now in
-    let first = pieces_first c.args.sep c.loop-i.rest.now c.cut-2.result c.cut-2.ensures in
-    let end : c.loop-i.i ≡ c.args.k = omega arith in
-    piece_here ps first.0 _ c.loop-i.i (sym first.1 ∙ c.loop-i.invariant) ∙ ap (λ j. get_or ps j []) end
+    ap (λ (x : Bor (List ℕ)). x.now) c.unwrap_or.ensures
+    ∙ piece_or_empty c.nth.result _ _ c.args.k (nth_from_yields_List _ _ c.args.k c.nth.ensures.ran
+    (YieldsList-from_slice_split _ (λ b. eqb b c.args.sep) c.args.s.now c.split.ensures.rest c.split.ensures.done c.split.ensures.closure (λ x b q k. search (rules, tests)))) refl

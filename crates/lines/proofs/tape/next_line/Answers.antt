@@ -1,11 +1,7 @@
-use Rattle.std.proofs.Common.{◌≡◌, ◌-◌, ◌<◌, length, arith, true-eqb, false-eqb}
-use Rattle.std.proofs.lemmas.List.{nil_from_length}
+use Rattle.std.proofs.Common.{◌≡◌, ◌-◌, ◌<◌, length, arith, false-eqb}
 use Rattle.std.proofs.lemmas.Option.{MatchOption-at_none, MatchOption-at_some}
 use Rattle.lines.proofs.Cuts.{first_ended, first_open}
 use Rattle.lines.proofs.tape.next_line.Goals as goal
-
-pub returns-then-is_empty : goal.returns-then-is_empty
-returns-then-is_empty c = nil_from_length c.args.input.now (true-eqb _ 0 c.if-is_empty.ensures)
 
 pub returns-in_default-Some : goal.returns-in_default-Some
 returns-in_default-Some c =

@@ -1,6 +1,6 @@
-use Rattle.std.proofs.Common.{arith}
-use Rattle.books.proofs.Words.{has_difference}
+use Rattle.std.proofs.Common.{not, ◌&&◌}
+use Rattle.books.proofs.Words.{at_both}
 use Rattle.books.proofs.points.PointSet.difference.Goals as goal
 
 pub returns : goal.returns
-returns c = λ q. has_difference c.args.self.now c.args.other.now q (omega arith) (omega arith) (omega arith) (omega arith)
+returns c = at_both (λ a b. a && not b) c.args.self.now c.args.other.now c.difference.result c.difference-2.result c.difference.ensures c.difference-2.ensures

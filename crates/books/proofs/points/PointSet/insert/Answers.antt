@@ -1,28 +1,16 @@
-use Rattle.std.proofs.Common.{◌≡◌, ◌/◌, true, false, ltb, sym, arith}
-use Rattle.std.proofs.lemmas.Nat.{one_shl}
-use Rattle.std.proofs.lemmas.Bool.{lt-ltb}
-use Rattle.books.specs.Points.{has}
-use Rattle.books.proofs.Words.{has_more_even, has_more_odd}
+use Rattle.std.proofs.Common.{arith}
+use Rattle.std.proofs.lemmas.Bool.Decides.{nat_tests}
+use Rattle.books.proofs.Words.{has_even, has_odd, adds_even, adds_odd}
 use Rattle.books.proofs.points.PointSet.insert.Goals as goal
 
-pub returns-then-p-eq0 : goal.returns-then-p-eq0
-returns-then-p-eq0 c =
-    let p = c.args.p in
-    let s = c.args.self.now in
-    let in_range : ltb p 128 ≡ true = lt-ltb p 128 (omega arith) in
-    let absent : has s p ≡ false = sym c.if-contains.ensures in
-    record {
-      new = rw (in_range, absent);
-      after = λ q. rw (in_range, one_shl (p / 2) 64 (omega arith)) (has_more_even s p q c.if-p-eq0.true);
-    }
+pub returns-then-p-eq0-clause-new : goal.returns-then-p-eq0-clause-new
+returns-then-p-eq0-clause-new c = let e = has_even c.args.self.now c.args.p c.if-p-eq0.true in let i = c.insert.ensures.new in grind (arith, nat_tests)
 
-pub returns-else-p-eq0 : goal.returns-else-p-eq0
-returns-else-p-eq0 c =
-    let p = c.args.p in
-    let s = c.args.self.now in
-    let in_range : ltb p 128 ≡ true = lt-ltb p 128 (omega arith) in
-    let absent : has s p ≡ false = sym c.if-contains.ensures in
-    record {
-      new = rw (in_range, absent);
-      after = λ q. rw (in_range, one_shl (p / 2) 64 (omega arith)) (has_more_odd s p q c.if-p-eq0.false);
-    }
+pub returns-then-p-eq0-clause-after : goal.returns-then-p-eq0-clause-after
+returns-then-p-eq0-clause-after c = adds_even c.args.self.now c.insert.new.self c.args.p c.if-p-eq0.true c.insert.ensures.after
+
+pub returns-else-p-eq0-clause-new : goal.returns-else-p-eq0-clause-new
+returns-else-p-eq0-clause-new c = let e = has_odd c.args.self.now c.args.p c.if-p-eq0.false in let i = c.insert-else-p-eq0.ensures.new in grind (arith, nat_tests)
+
+pub returns-else-p-eq0-clause-after : goal.returns-else-p-eq0-clause-after
+returns-else-p-eq0-clause-after c = adds_odd c.args.self.now c.insert-else-p-eq0.new.self c.args.p c.if-p-eq0.false c.insert-else-p-eq0.ensures.after

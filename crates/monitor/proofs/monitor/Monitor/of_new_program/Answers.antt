@@ -1,5 +1,4 @@
 use Rattle.std.proofs.Common.{sym, ap, ◌∙◌, subst}
-use Rattle.books.proofs.Binary.{zero_bit}
 use Rattle.tasks.specs.View.{view}
 use Rattle.tasks.specs.declared.picture.Picture.{Picture as CodePicture}
 use Rattle.task_book.specs.Names.{HoldsDead}
@@ -8,7 +7,7 @@ use Rattle.monitor.proofs.monitor.Monitor.of_new_program.Goals as goal
 
 pub invariant_of-result : goal.invariant_of-result
 invariant_of-result c =
-    record { exact = ∣ subst (λ (x : CodePicture). HoldsDead 0 (view x.tables)) (sym c.new-2.ensures) (subst (HoldsDead 0) (sym c.new.ensures) none_dead) ∣₁ }
+    record { exact = ∣ subst (λ (x : CodePicture). HoldsDead c.empty.result (view x.tables)) (sym c.new-2.ensures) (subst (HoldsDead c.empty.result) (sym c.new.ensures) (none_dead c.empty.result c.empty.ensures)) ∣₁ }
 
 pub returns : goal.returns
-returns c = record { picture = ap (λ (x : CodePicture). view x.tables) c.new-2.ensures ∙ c.new.ensures; named = zero_bit }
+returns c = record { picture = ap (λ (x : CodePicture). view x.tables) c.new-2.ensures ∙ c.new.ensures; named = c.empty.ensures }

@@ -1,32 +1,24 @@
-use Rattle.std.proofs.Common.{sym, subst, arith}
-use Rattle.std.proofs.lemmas.Result.{err_from_is_err_and}
+use Rattle.std.proofs.Common.{sym, subst}
 use Rattle.rules.specs.Rules.{Step}
 use Rattle.tasks.specs.declared.picture.Picture.{Picture}
 use Rattle.tasks.specs.View.{view}
 use Rattle.task_book.specs.declared.book.TaskBook.{TaskBook}
 use Rattle.task_book.specs.Book.{picture_of}
 use Rattle.task_book.specs.Names.{HoldsDead}
-use Rattle.monitor.proofs.Exactly.{exactly, newly_dead, none_newly_dead, old_and_new, only_old, still_exact}
-use Rattle.monitor.proofs.Same.{same_monitor}
+use Rattle.monitor.proofs.Exactly.{exact_names, newly_dead, none_newly_dead, old_and_new, only_old, still_exact}
 use Rattle.monitor.proofs.monitor.Monitor.tell_event.Goals as goal
 
 pub invariant_of-self : goal.invariant_of-self
 invariant_of-self c =
     let m = c.args.self.now in
-    record { exact = subst (λ (x : Picture). ∥ (HoldsDead m.names.0 (view x.tables)) ∥₁) (sym c.in_err-outcome.ensures.1) m.exact }
-
-pub returns-in_err-outcome : goal.returns-in_err-outcome
-returns-in_err-outcome c =
-    let p = err_from_is_err_and c.from_residual.result c.from_residual.ensures.1 in
-    let told = c.in_err-outcome.ensures in
-    rw (p.1, p.2) (told.0, same_monitor c.args.self.now c.tell.new.self _ told.1)
+    record { exact = subst (λ (x : Picture). ∥ (HoldsDead m.names (view x.tables)) ∥₁) (sym c.in_err-outcome.ensures.1) m.exact }
 
 pub invariant_of-self-then-not-may_make_dead : goal.invariant_of-self-then-not-may_make_dead
 invariant_of-self-then-not-may_make_dead c =
     let m = c.args.self.now in
     let p = picture_of m.tasks.watch.book in record {
       exact = ∣ still_exact p (view c.tell.new.self.tables) c.args.event c.in_ok-outcome.outcome m.tasks.watch.book.picture.reached
-          c.in_ok-outcome.ensures (c.may_make_dead.ensures c.if-not-may_make_dead.true) m.names.0 (exactly m.names.0 p m.exact) ∣₁;
+          c.in_ok-outcome.ensures (c.may_make_dead.ensures c.if-not-may_make_dead.true) m.names (exact_names m) ∣₁;
     }
 
 pub returns-then-not-may_make_dead : goal.returns-then-not-may_make_dead
@@ -39,11 +31,11 @@ returns-then-not-may_make_dead c =
     let step = c.in_ok-outcome.ensures in
     let reached = m.tasks.watch.book.picture.reached in
     let harmless = c.may_make_dead.ensures c.if-not-may_make_dead.true in
-    let before = exactly m.names.0 p m.exact in
+    let before = exact_names m in
     record {
       step = step;
-      adds = none_newly_dead p q v o reached step harmless m.names.0 before;
-      names = only_old p q v o reached step harmless m.names.0 before;
+      adds = none_newly_dead p q v o reached step harmless m.names before c.empty.result c.empty.ensures;
+      names = only_old p q v o reached step harmless m.names before c.empty.result c.empty.ensures;
     }
 
 pub invariant_of-self-2 : goal.invariant_of-self-2
@@ -61,10 +53,10 @@ returns c =
     let judged = c.judge-names.ensures in
     let new = c.judge-names.result in
     let step : Step p v o q = subst (λ (b : TaskBook). Step p v o (picture_of b)) (sym judged.same) c.in_ok-outcome.ensures in
-    let before = exactly m.names.0 p m.exact in
+    let before = exact_names m in
     let after : HoldsDead new q = subst (λ (b : TaskBook). HoldsDead new (picture_of b)) (sym judged.same) judged.dead in
     record {
       step = step;
-      adds = newly_dead p q v o step m.names.0 new (omega arith) (omega arith) before after;
-      names = old_and_new p q v o step m.names.0 new (omega arith) (omega arith) before after;
+      adds = newly_dead p q v o step m.names new c.difference-added.result c.difference-added.ensures before after;
+      names = old_and_new p q v o step m.names new c.difference-added.result c.difference-added.ensures before after;
     }

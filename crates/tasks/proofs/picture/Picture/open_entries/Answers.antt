@@ -1,8 +1,9 @@
-use Rattle.std.proofs.Common.{◌≡◌, ℕ, sym, refl, ap, ◌∙◌, rules}
-use Rattle.std.proofs.lemmas.List.{get_or_past}
+use Rattle.std.proofs.Common.{◌≡◌, ℕ, refl, arith}
 use Rattle.rules.specs.declared.vocabulary.Status.{Status}
 use Rattle.rules.specs.declared.vocabulary.Status.TheVariants.{NotBegun, Running, Queued, Engaged, Accepting, Leaving, Completed, Terminated}
-use Rattle.tasks.specs.View.{blank}
+use Rattle.rules.specs.Picture.{Picture, status}
+use Rattle.rules.specs.Rules.{IsOpenSet}
+use Rattle.tasks.specs.Promises.{IsReached}
 use Rattle.tasks.specs.Sets.{open_entries}
 use Rattle.tasks.proofs.Reach.{accept_set}
 use Rattle.tasks.proofs.picture.Picture.open_entries.Goals as goal
@@ -18,11 +19,8 @@ none_open Leaving n = refl
 none_open Completed n = refl
 none_open Terminated n = refl
 
-pub returns-in_default : goal.returns-in_default
-returns-in_default c = sym (ap (λ r. open_entries r.status) (get_or_past c.args.self.now.tables.tasks c.args.task blank (search rules)))
+none_proper : {p : Picture} (t : ℕ) → IsReached p → ((m : ℕ) → status p t ≡ Accepting m → IsOpenSet (p.task t).entries m → ⊥) → ◌≡◌ {A = ℕ} 0 (open_entries (status p t))
+none_proper {p} t r n = none_open (status p t) (λ m e. n m e (accept_set t m r e))
 
-pub returns-in-None : goal.returns-in-None
-returns-in-None c =
-    let known = c.in-Some.ensures.lookup.3.1 blank in
-    none_open _ (λ m e. let set = accept_set c.args.task m c.args.self.now.reached e in
-    c.in-None.ensures m (ap (λ r. r.status) known ∙ e) (search (rules, known, set)))
+pub returns : goal.returns
+returns c = let n = none_proper c.args.task c.args.self.now.reached in grind (arith, n)

@@ -1,13 +1,8 @@
-use Rattle.std.proofs.Common.{sym, ◌∙◌, arith}
-use Rattle.tasks.proofs.Lists.{block_on_top, block_under_top}
+use Rattle.std.proofs.Common.{◌∙◌, rules}
+use borrow.Author.Tests.{tests}
+use Rattle.tasks.specs.View.{frames_of}
+use Rattle.tasks.proofs.Levels.{is_block, block_level}
 use Rattle.tasks.proofs.record.TaskRecord.innermost_block.Goals as goal
 
-pub returns-in-Block : goal.returns-in-Block
-returns-in-Block c =
-    let t = c.args.self.now in
-    sym (c.loop-i.invariant ∙ block_on_top t.frames c.loop-i.i _ c.loop-i-test.true (omega (arith, c.loop-i.auto.i, t.whole, t.shallow)) c.in-Block.is)
-
-pub loop-i-preserved : goal.loop-i-preserved
-loop-i-preserved c =
-    let t = c.args.self.now in
-    c.loop-i.invariant ∙ block_under_top t.frames c.loop-i.i _ c.loop-i-test.true (omega (arith, c.loop-i.auto.i, t.whole, t.shallow)) c.in_default.not-Block
+pub returns : goal.returns
+returns c = c.level_of.ensures is_block (λ f b q k. search (rules, tests)) ∙ block_level (frames_of c.args.self.now)

@@ -10,11 +10,6 @@ use Rattle.tasks.proofs.tables.Tables.+settle.Goals as goal
 pub returns-in_default : goal.returns-in_default
 returns-in_default t c = no_master (ap (λ r. r.master) (sym c.task.ensures) ∙ c.in_default.is)
 
-pub invariant_of-m : goal.invariant_of-m
-invariant_of-m t c =
-    let e = ap (λ r. r.master) (sym c.task.ensures) ∙ c.in-Some.is in
-    record { small = omega (arith, c.requires.elder c.args.ended.number c.in-Some.master.creator c.in-Some.master.level (c.requires.begun, e), c.args.ended.small) }
-
 pub returns-then-closes : goal.returns-then-closes
 returns-then-closes t c =
     let p = view c.args.self.now in

@@ -9,12 +9,8 @@ use Rattle.tasks.specs.Stops.{stopped}
 use Rattle.tasks.specs.View.{view, frames_of}
 use Rattle.tasks.specs.Promises.{Settling}
 use Rattle.tasks.proofs.Views.{arrived}
-use Rattle.tasks.proofs.Reach.{few_begun}
 use Rattle.tasks.proofs.Endings.{runs_on, settling_from}
 use Rattle.tasks.proofs.tables.Tables.finish.Goals as goal
-
-pub all_over-over-requires : goal.all_over-over-requires
-all_over-over-requires c = few_begun c.requires.reached
 
 pub returns-then-not-over : goal.returns-then-not-over
 returns-then-not-over c =

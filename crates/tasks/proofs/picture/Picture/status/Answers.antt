@@ -1,7 +1,0 @@
-use Rattle.std.proofs.Common.{sym, ap, rules}
-use Rattle.std.proofs.lemmas.List.{get_or_past}
-use Rattle.tasks.specs.View.{blank}
-use Rattle.tasks.proofs.picture.Picture.status.Goals as goal
-
-pub returns-in-None : goal.returns-in-None
-returns-in-None c = sym (ap (λ r. r.status) (get_or_past c.args.self.now.tables.tasks c.args.task blank (search rules)))
