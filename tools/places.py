@@ -96,7 +96,7 @@ points = {
                r"|let Ok\(\w+\) = [^;]*? else"),
     "2 functions of one shape, but for their words": same_shape(),
     "3 loops over numbers, and while": lines(r"^\s*for \w+ in [^{]*(\w|\))\.\.|^\s*while\b|^\s*loop \{"),
-    "3 counters beside a loop": lines(r"^\s*\w+ \+= 1;"),
+    "3 counters beside a loop": lines(r"(^\s*|=> )(self\.at|\w+) \+= 1\b"),
     "4 conversions, equality and printing by hand":
         lines(r"\bfn (number|letter|other|arity|from_\w+|fmt|eq|cmp|default|put_number)\b|matches!\([\w.]+, \w+::\w+\)"
               r"|\w+\.\w+ == \w+(\.\w+)? && |\.number [!=]= |_ => false"),

@@ -1,6 +1,6 @@
 -- Sets of points as tests: how large they are, and how judging comes to the largest shut set.
-use Rattle.std.proofs.Common.{◌≡◌, ℕ, zero, suc, ◌+◌, ◌<◌, ◌≤◌, Bool, true, false, cond, not, ◌&&◌, ◌||◌, eqb, ltb, sym, refl, ap, ◌∙◌, inl, inr, ⊎_elim, arith}
-use Rattle.std.proofs.lemmas.Bool.{both_ways, not_from_false, lt-ltb, eqb-true, eq-eqb, and_parts, and_from, or_cases, or_left, or_right, cases_Bool, cases_eq, ne_eqb}
+use Rattle.std.proofs.Common.{◌≡◌, ℕ, zero, suc, ◌+◌, ◌<◌, ◌≤◌, Bool, true, false, cond, not, ◌&&◌, ◌||◌, eqb, ltb, ◌⊎◌, sym, refl, ap, ◌∙◌, inl, inr, ⊎_elim, arith}
+use Rattle.std.proofs.lemmas.Bool.{both_ways, not-true, not_from_false, ltb-true, lt-ltb, eqb-true, eq-eqb, and_parts, and_from, or_cases, or_left, or_right, cases_Bool, cases_eq, ne_eqb}
 use Rattle.books.specs.Passes.{Reached}
 use Rattle.books.specs.Shut.{Inside, Grows, outside, Shut, size}
 
@@ -124,6 +124,17 @@ takes_gone W W' p a = a p ∙ ap (λ b. W p && not b) (eq-eqb p p refl) ∙ and_
     and_false true = refl
     and_false false = refl
 
+-- whoever is out of W' was out of W, or is p
+takes_cases : (W W' : ℕ → Bool) (p : ℕ) → Takes W p W' → (q : ℕ) → W' q ≡ false → (q ≡ p) ⊎ (W q ≡ false)
+takes_cases W W' p a q e = elim (cases_eq q p) [
+  | inl i ↦ inl i
+  | inr n ↦ inr (go (W q) (sym e ∙ a q ∙ ap (λ b. W q && not b) (ne_eqb q p n)))
+]
+  where
+    go : (b : Bool) → false ≡ (b && true) → b ≡ false
+    go true h = sym h
+    go false h = refl
+
 pub takes_fewer : (n : ℕ) (W W' : ℕ → Bool) (p : ℕ) → p < n → W p ≡ true → Takes W p W' → size n W' < size n W
 takes_fewer n W W' p h w a = size_more n W' W (takes_inside W W' p a) p h (takes_gone W W' p a) w
 
@@ -151,6 +162,16 @@ module _ (n : ℕ) (f : ℕ → (ℕ → Bool) → Bool) (grows : Grows f) where
         (or_cases (eqb q p) (R q) (sym (a q) ∙ r));
   }
 
+  pub passing_none : (R W : ℕ → Bool) → Reached n f R → ((q : ℕ) → W q ≡ outside n R q) → Passing n f R R false W
+  passing_none R W k w = record {
+    reached = k;
+    kept = omega arith;
+    more = λ e. absurd (both_ways false refl e);
+    points = λ q e. ltb-true q n (and_parts (ltb q n) (not (R q)) (sym (w q) ∙ e)).0;
+    fresh = λ q e. not-true (R q) (and_parts (ltb q n) (not (R q)) (sym (w q) ∙ e)).1;
+    done = λ e q h out r. absurd (both_ways (W q) out (w q ∙ and_from (ltb q n) (not (R q)) (lt-ltb q n h) (not_from_false (R q) r)));
+  }
+
   module _ (R₀ R W W' : ℕ → Bool) (grew : Bool) (p : ℕ) (k : Passing n f R₀ R grew W) (member : W p ≡ true) (takes : Takes W p W') where
     pub passing_added : (R' : ℕ → Bool) → f p R ≡ true → Adds R p R' → Passing n f R₀ R' true W'
     passing_added R' follows a =
@@ -166,3 +187,16 @@ module _ (n : ℕ) (f : ℕ → (ℕ → Bool) → Bool) (grows : Grows f) where
           ];
           done = λ e. absurd (both_ways true e refl);
         }
+
+    pub passing_kept : f p R ≡ false → Passing n f R₀ R grew W'
+    passing_kept here = record {
+      reached = k.reached;
+      kept = k.kept;
+      more = k.more;
+      points = λ q e. k.points q (takes_inside W W' p takes q e);
+      fresh = λ q e. k.fresh q (takes_inside W W' p takes q e);
+      done = λ e q h out r. elim (takes_cases W W' p takes q out) [
+        | inl i ↦ ap (λ x. f x R) i ∙ here
+        | inr w ↦ k.done e q h w r
+      ];
+    }

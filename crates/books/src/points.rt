@@ -117,8 +117,8 @@ impl PointSet {
     }
 }
 
-// The points of a set that are still to come, in the order in which `take` takes them. One iterator for this and for `Members`
-// would need a trait with a law of its own, longer than both.
+// The points of a set that are still to come, in the order of `take`. One iterator for both sets would need a trait longer than
+// both.
 #[derive(Drop)]
 pub struct PointIter {
     left: PointSet,

@@ -4,8 +4,7 @@ ghost use Rattle.std.specs.Io.KnownBytes.{Appends};
 ghost use Rattle.console.specs.Printed.{Printed};
 
 use monitor::report_of_tape;
-use std::io;
-use std::io::Write;
+use std::io::{self, Write};
 
 // Enough for 64 named tasks and the closing line.
 const REPORT_ROOM: usize = 1024;
@@ -16,7 +15,7 @@ pub fn print_report<W: Write>(out: &mut W, tape: &[u8]) -> io::Result<()>
 {
     let mut page = [0; REPORT_ROOM];
     match report_of_tape(tape, &mut page) {
-        Ok(length) => out.write_all(&page[0..length]),
-        Err(refusal) => write!(out, "X,{}\n", refusal.number()),
+        Ok(length) => out.write_all(&page[..length]),
+        Err(refusal) => writeln!(out, "X,{}", refusal.number()),
     }
 }

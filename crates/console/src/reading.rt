@@ -2,8 +2,7 @@
 ghost use Rattle.std.specs.Prelude.{◌≡◌, take, IfOk, IfSome};
 
 use std::alloc::Global;
-use std::io;
-use std::io::Read;
+use std::io::{self, Read};
 
 // What is left of the input, but no more than its first `most` bytes.
 pub fn read_at_most<R: Read + Drop>(heap: Global, input: R, most: u64) -> io::Result<Vec<u8>>

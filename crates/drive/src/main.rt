@@ -6,12 +6,15 @@ use monitor::Monitor;
 use std::alloc::{AllocError, Global};
 use std::io;
 
+// How many tasks there are, task 0 among them.
+const TASKS: usize = 64;
+
 // Task 0 begins all others; every third of them has two entries.
 fn beginning(heap: Global) -> Result<String, AllocError> {
     let mut tape = String::new(heap);
-    for child in 1..64usize {
+    for child in 1..TASKS {
         let entries = if child % 3 == 1 { 2 } else { 0 };
-        write!(tape, "N,0,{child},{entries}\n")?;
+        writeln!(tape, "N,0,{child},{entries}")?;
     }
     Ok(tape)
 }
@@ -22,7 +25,9 @@ fn round(heap: Global, server: usize) -> Result<String, AllocError> {
     let near = server.wrapping_add(1);
     let far = server.wrapping_add(2);
     format!(in heap;
-        "C,{near},{server},1\nA,{server},3\nE,{server}\nB,{near}\nL,{near}\nA,{server},1\nC,{far},{server},0\nB,{server}\nL,{server}\nE,{server}\n"
+        "C,{near},{server},1\nA,{server},3\nE,{server}\n\
+         B,{near}\nL,{near}\n\
+         A,{server},1\nC,{far},{server},0\nB,{server}\nL,{server}\nE,{server}\n"
     )
 }
 

@@ -22,6 +22,7 @@ pub fn read_number(s: &[u8]) -> Option<u16>
     if has_leading_zero(s) {
         return None;
     }
+    // No `try_fold`: that `n * 10` fits did not prove in its closure.
     let mut n = 0;
     for b in s {
         if !b.is_ascii_digit() {

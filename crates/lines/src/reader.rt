@@ -36,7 +36,7 @@ impl Fields {
     pub fn numbers(&self) -> &[u16]
         ensures { result.now ≡ numbers self.now }
     {
-        &self.values[0..self.count]
+        &self.values[..self.count]
     }
 }
 

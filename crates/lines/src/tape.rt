@@ -12,10 +12,8 @@ pub fn next_line(input: &[u8]) -> Option<(&[u8], &[u8])>
     if input.is_empty() {
         return None;
     }
-    match cut(input, b'\n') {
-        (line, Some(rest)) => Some((line, rest)),
-        (line, None) => Some((line, &input[input.len()..])),
-    }
+    let (line, rest) = cut(input, b'\n');
+    Some((line, rest.unwrap_or(&input[input.len()..])))
 }
 
 // The lines of an input, one after another.

@@ -30,7 +30,7 @@ impl Monitor {
     pub(crate) fn tell_event(&mut self, event: Event) -> Result<Accepted, Refusal>
         ensures { EventTold self.old event result self.new }
     {
-        let outcome = self.tasks.watch.book.picture.tell(event)?;
+        let outcome = self.tasks.tell(event)?;
         if !self.tasks.watch.book.may_make_dead(event, outcome) {
             return Ok(Accepted {
                 outcome,

@@ -112,10 +112,9 @@ impl Monitor {
     fn ticket_after(&self, ticket: RunningTicket) -> Tickets
         ensures { TicketAfter self.now ticket.task result }
     {
-        if self.status(u16::from(ticket.task)) == Status::Running {
-            Tickets::Runs(ticket)
-        } else {
-            Tickets::Waits(Ticket::of(ticket.task))
+        match self.exchange(Ticket::of(ticket.task)) {
+            Ok(running) => Tickets::Runs(running),
+            Err(waiting) => Tickets::Waits(waiting),
         }
     }
 

@@ -15,21 +15,18 @@ pub(crate) struct Page<'a> {
 }
 
 impl Page<'_> {
-    // By index: once a place is lent by `get_mut`, a proof knows no byte of the buffer any more.
     fn put(&mut self, bytes: &[u8])
         requires { self.old.at + length bytes.now < 2 ^ 63 }
         ensures { Takes self.old bytes.now self.new }
     {
-        for &byte in bytes {
-            if self.at < self.buf.len() {
-                self.buf[self.at] = byte;
-            }
-            self.at += 1;
+        let end = self.buf.len().min(self.at + bytes.len());
+        if self.at < end {
+            self.buf[self.at..end].copy_from_slice(&bytes[..end - self.at]);
         }
+        self.at += bytes.len();
     }
 
-    // `n` in decimal. No `write!` serves here: its contract leaves open when it fails, and a report says exactly when it is
-    // refused.
+    // `n` in decimal; `write!` leaves open when it fails.
     fn put_number(&mut self, n: u64)
         requires { self.old.at < 2 ^ 62 }
         ensures takes { Takes self.old (decimal n) self.new }

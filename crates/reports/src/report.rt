@@ -82,7 +82,7 @@ pub trait Roster {
         ensures { result ≡ rows self.now task };
 }
 
-// Answers the length. The names are counted beside the rows: a chain of iterators would put and count in one closure.
+// Answers the length. By task: a `for` over `filter_map` did not prove here, where `R` is generic.
 fn put_report<R: Roster>(buf: &mut [u8], roster: &R, ending: Ending) -> usize
     ensures { Puts buf.old 0 (report_text (rows_below (R.rows roster.now) 64) ending) buf.new result }
 {

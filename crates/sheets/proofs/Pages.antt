@@ -1,33 +1,23 @@
 -- What is printed, one line more.
-use Rattle.std.proofs.Common.{◌≡◌, ℕ, ◌+◌, Bool, true, false, List, [], ◌∷◌, ◌++◌, sym, refl, ap, ◌∙◌, subst, append_assoc, add_assoc, add-one}
-use Rattle.std.specs.List.{flat_map}
-use Rattle.std.proofs.lemmas.List.{append-nil, flat_map_more}
+use Rattle.std.proofs.Common.{◌≡◌, ℕ, zero, suc, ◌+◌, Bool, cond, List, [], ◌∷◌, ◌++◌, filter, sym, refl, ap, ◌∙◌, subst, append_assoc, add_assoc, add-zero, zero-add, arith}
+use Rattle.std.specs.List.{range_with_len}
+use Rattle.std.proofs.lemmas.List.Elements.{filter-append}
 use Rattle.refusals.specs.declared.Refusal.{Refusal}
 use Rattle.refusals.specs.Table.{number_of}
-use Rattle.sheets.specs.Page.{Fed, takes, refuses, party_line, refusal_line, members}
+use Rattle.sheets.specs.Page.{Fed, takes, refuses, refusal_line, members}
 use Rattle.sheets.specs.Rows.{Takes, Refuses}
 use Rattle.sheets.specs.Sheets.{Meaning}
 
-pub members_none : (S : ℕ → Bool) → members 0 S ≡ []
+-- the members below n are the numbers below n that the set has
+numbers_more : (a n : ℕ) → range_with_len a (suc n) ≡ range_with_len a n ++ (a + n) ∷ []
+numbers_more a zero = ap (λ k. k ∷ []) (sym (add-zero a))
+numbers_more a (suc n) = ap (λ l. a ∷ l) (numbers_more (a + 1) n ∙ ap (λ k. range_with_len (a + 1) n ++ k ∷ []) (omega arith))
+
+pub members_filter : (n : ℕ) (S : ℕ → Bool) → filter S (range_with_len 0 n) ≡ members n S
 unfolding members
-members_none S = refl
-
-pub members_in : (n : ℕ) (S : ℕ → Bool) → S n ≡ true → members (n + 1) S ≡ members n S ++ n ∷ []
-unfolding members
-members_in n S h = rw (add-one, h)
-
-pub members_out : (n : ℕ) (S : ℕ → Bool) → S n ≡ false → members (n + 1) S ≡ members n S
-unfolding members
-members_out n S h = rw (add-one, h) (append-nil (members n S))
-
-module _ (n : ℕ) (S : ℕ → Bool) (start text : List ℕ) (so_far : text ≡ start ++ flat_map party_line (members n S)) where
-  pub party_in : S n ≡ true → text ++ party_line n ≡ start ++ flat_map party_line (members (n + 1) S)
-  party_in h =
-      ap (λ l. l ++ party_line n) so_far ∙ append_assoc start (flat_map party_line (members n S)) (party_line n)
-      ∙ ap (λ l. start ++ l) (flat_map_more party_line [] (members n S) n ∙ ap (flat_map party_line) (sym (members_in n S h)))
-
-  pub party_out : S n ≡ false → text ≡ start ++ flat_map party_line (members (n + 1) S)
-  party_out h = so_far ∙ ap (λ l. start ++ flat_map party_line l) (sym (members_out n S h))
+members_filter zero S = refl
+members_filter (suc n) S =
+    ap (filter S) (numbers_more 0 n ∙ ap (λ k. range_with_len 0 n ++ k ∷ []) (zero-add n)) ∙ filter-append S (range_with_len 0 n) (n ∷ []) ∙ ap (λ l. l ++ cond (S n) (n ∷ []) []) (members_filter n S)
 
 -- one line more that is taken or refused, before those that are left
 module _ (n t : ℕ) (f g h : Meaning) (all : List (List ℕ)) (start : Meaning) (taken : ℕ) (so_far line rest_text : List ℕ) (ls rest : List (List ℕ))

@@ -26,7 +26,7 @@ fn take_lines(sheet: &mut WaitSheet, input: &[u8], text: &mut String) -> Result<
     for (i, line) in lines(input).enumerate() {
         match sheet.take_line(line) {
             Ok(()) => taken += 1,
-            Err(refusal) => write!(text, "X,{},{}\n", i + 1, refusal.number())?,
+            Err(refusal) => writeln!(text, "X,{},{}", i + 1, refusal.number())?,
         }
     }
     Ok(taken)
@@ -36,11 +36,9 @@ fn take_lines(sheet: &mut WaitSheet, input: &[u8], text: &mut String) -> Result<
 fn put_parties(out: &PointSet, text: &mut String) -> Result<(), AllocError>
     ensures { OnOk result (string_bytes text.new ≡ string_bytes text.old ++ flat_map party_line (members parties (has out.now))) }
 {
-    // By number: the points of a set come with the even ones first.
-    for party in 0..PARTIES {
-        if out.contains(party) {
-            write!(text, "O,{party}\n")?;
-        }
+    // By number: the set's own iterator gives the even points first.
+    for party in (0..PARTIES).filter(|party| out.contains(*party)) {
+        writeln!(text, "O,{party}")?;
     }
     Ok(())
 }
@@ -59,6 +57,6 @@ pub fn judged_page(heap: Global, input: &[u8]) -> Result<String, AllocError>
     watch.judge();
     let out = watch.left_out();
     put_parties(&out, &mut page)?;
-    write!(page, "J,{taken},{}\n", out.len())?;
+    writeln!(page, "J,{taken},{}", out.len())?;
     Ok(page)
 }

@@ -46,11 +46,10 @@ impl WaitBook for WaitSheet {
     ghost beyond = { follow_beyond };
 
     fn follows(&self, p: usize, s: &PointSet) -> bool {
-        match self.rows.get(p) {
-            Some(Some(row)) => row.is_met(s),
-            Some(None) => true,
-            None => false,
-        }
+        let Some(kept) = self.rows.get(p) else {
+            return false;
+        };
+        kept.as_ref().is_none_or(|row| row.is_met(s))
     }
 }
 

@@ -53,7 +53,7 @@ pub fn play<T: Teller>(teller: &mut T, tape: &[u8]) -> Result<usize, PlayRefusal
     if tape.len() > TAPE_ROOM {
         return Err(PlayRefusal::TapeTooLong);
     }
-    // Counted by hand, since it is asked at the end as well.
+    // Not by `try_fold`: its closure would write `teller`, of which a proof then knows nothing.
     let mut told = 0;
     for line in lines(tape) {
         teller

@@ -45,10 +45,7 @@ impl TaskBook {
         match outcome {
             Outcome::GoesOn | Outcome::Rendezvous | Outcome::TaskingError => false,
             Outcome::Terminated => true,
-            Outcome::Waits => match event.action {
-                Action::Finish => true,
-                _ => !self.is_plainly_able(event.actor),
-            },
+            Outcome::Waits => event.action == Action::Finish || !self.is_plainly_able(event.actor),
         }
     }
 }

@@ -44,12 +44,12 @@ impl TaskBook {
         self.dependents_end(Levels::Above(rendezvous).of(server), s)
     }
 
-    /// Whether every dependent of the innermost block of task t can end.
-    fn innermost_block_ends(&self, t: u8, s: &PointSet) -> bool
-        ensures { result ≡ dependents_end (picture_of self.now) (has s.now) t (innermost (picture_of self.now) t) }
+    /// The dependents of the innermost block of task t.
+    pub(crate) fn innermost_block_of(&self, t: u8) -> Dependents
+        ensures creator { result.creator ≡ t }
+        ensures levels { level_in result.levels ≡ innermost (picture_of self.now) t }
     {
-        let block = self.picture.open_frames(t);
-        self.dependents_end(Levels::At(block).of(t), s)
+        Levels::At(self.picture.open_frames(t)).of(t)
     }
 
     /// Whether task t, which has begun, can run.
@@ -61,7 +61,7 @@ impl TaskBook {
             Status::Queued { server, .. } => runs(s, server),
             Status::Engaged { server } => runs(s, server) && self.blocks_inside_end(server, t, s),
             Status::Accepting { .. } => s.any_even_besides(usize::from(t)),
-            Status::Leaving => self.innermost_block_ends(t, s),
+            Status::Leaving => self.dependents_end(self.innermost_block_of(t), s),
             Status::NotBegun | Status::Completed | Status::Terminated => false,
         }
     }
@@ -98,10 +98,11 @@ impl WaitBook for TaskBook {
         if t >= usize::from(self.picture.begun()) {
             return false;
         }
+        let t = t as u8;
         if p % 2 == 0 {
-            self.can_run(t as u8, s)
+            self.can_run(t, s)
         } else {
-            self.can_end(t as u8, s)
+            self.can_end(t, s)
         }
     }
 }

@@ -4,7 +4,7 @@ ghost use Rattle.task_book.specs.Levels.{level_in, among};
 
 use rules::Master;
 
-/// Which levels of a task's open frames are asked about. No closure, since clauses name what it says of a level.
+/// Which levels of a task's open frames are asked about. No closure: contracts need the answer as a function, `level_in`.
 #[derive(Clone, Copy)]
 pub(crate) enum Levels {
     /// The body, and each block.

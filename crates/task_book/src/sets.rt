@@ -17,7 +17,7 @@ impl TaskBook {
         requires { F.IsAlwaysCallable passes }
         ensures { Tested (F.post passes) (picture_of self.now).begun result }
     {
-        // No chain: `collect` asks for an allocator, and the box has no heap.
+        // No chain: a `for` over `filter` is refused here, and with `filter` and `fold` the proof did not close.
         let mut tasks = Members::empty();
         for t in 0..self.picture.begun() {
             if passes(t) {

@@ -21,8 +21,7 @@ impl TaskBook {
     pub fn unfinished_in_block(&self, task: u8) -> u8
         ensures { result ≡ unfinished (picture_of self.now) task (innermost (picture_of self.now) task) }
     {
-        let block = self.picture.open_frames(task);
-        self.unfinished(Levels::At(block).of(task))
+        self.unfinished(self.innermost_block_of(task))
     }
 
     /// How many dependents of the task are not Terminated.

@@ -1,10 +1,9 @@
--- What a task that finishes leaves behind: it stays Running while its callers go, and then the cascade goes up the masters.
-use Rattle.std.proofs.Common.{◌≡◌, ℕ, List, [], ◌∷◌, sym, refl, ap, ◌∙◌, arith}
-use Rattle.std.proofs.lemmas.Bool.{cond-false}
+-- What a task that finishes leaves behind: the cascade goes up the masters.
+use Rattle.std.proofs.Common.{◌≡◌, ℕ, List, [], ◌∷◌, sym, refl, ◌∙◌, arith}
 use Rattle.rules.specs.declared.vocabulary.Frame.{Frame}
 use Rattle.rules.specs.declared.vocabulary.Frame.TheVariants.{Block, Rendezvous}
-use Rattle.rules.specs.declared.vocabulary.Status.TheVariants.{Leaving, Running, Terminated}
-use Rattle.rules.specs.Picture.{Picture, Task, status, frames, queued_at_server, Depends}
+use Rattle.rules.specs.declared.vocabulary.Status.TheVariants.{Leaving, Terminated}
+use Rattle.rules.specs.Picture.{Picture, status, frames, Depends}
 use Rattle.rules.specs.Changes.{with_status, mark, dismiss}
 use Rattle.rules.specs.Refusals.{BlockInnermost}
 use Rattle.rules.specs.Rules.{Acts}
@@ -12,12 +11,6 @@ use Rattle.rules.proofs.Basics.Queues.{dismiss_each, dismiss_master}
 use Rattle.rules.proofs.Basics.Tasks.{at_each, mark_master}
 use Rattle.tasks.specs.Promises.{IsReached, Settling}
 use Rattle.tasks.proofs.Reach.{elder_of, leaving_block}
-
--- who is Running stays so
-pub runs_on : (p : Picture) (a : ℕ) → status p a ≡ Running → status (dismiss p a) a ≡ Running
-runs_on p a e = ap (λ (t : Task). t.status) (cond-false (queued_at_server a (status p a)) (with_status (p.task a) Running) (p.task a) (ap (queued_at_server a) e)) ∙ e
-
--- ---- the cascade
 
 pub block_front : (fs : List Frame) → BlockInnermost fs → (gs : List Frame) × (fs ≡ Block ∷ gs)
 block_front [] h = absurd h

@@ -1,3 +1,4 @@
+// What a Running task may do with its blocks: first the checks, in the order of their numbers, then the change.
 ghost use Rattle.std.specs.Prelude.{◌<◌};
 ghost use Rattle.rules.specs.declared.vocabulary.Action.TheVariants.{OpenBlock, LeaveBlock};
 ghost use Rattle.rules.specs.Rules.{Acts};
@@ -8,9 +9,8 @@ use crate::ids::TaskId;
 use crate::limits::BLOCK_ROOM;
 use crate::tables::Tables;
 use refusals::Refusal;
-use rules::{Action, Frame, Outcome};
+use rules::{Frame, Outcome, Status};
 
-// What a Running task may do with its blocks: first the checks, in the order of their numbers, then the change.
 impl Tables {
     /// A block opens.
     pub(crate) fn open_block(&mut self, actor: TaskId) -> Result<Outcome, Refusal>
@@ -38,7 +38,7 @@ impl Tables {
             self.close_block(actor);
             return Ok(Outcome::GoesOn);
         }
-        self.stop(actor, Action::LeaveBlock);
+        self.mark(actor, Status::Leaving);
         Ok(Outcome::Waits)
     }
 }

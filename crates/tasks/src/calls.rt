@@ -1,3 +1,4 @@
+// A new picture, telling it an event, and what its tasks are doing.
 ghost use Rattle.std.specs.Prelude.{◌≡◌, ◌<◌};
 ghost use Rattle.rules.specs.Picture.{fresh, status};
 ghost use Rattle.tasks.specs.Sets.{open_entries};

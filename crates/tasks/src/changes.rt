@@ -1,17 +1,17 @@
+// The changes that events are made of.
 ghost use Rattle.std.specs.Prelude.{◌≡◌, ◌<◌, List, ◌∷◌, length, slice_index_or};
 ghost use Rattle.rules.specs.declared.vocabulary.Frame.{Frame as AFrame};
 ghost use Rattle.rules.specs.declared.vocabulary.Status.TheVariants.{Running};
 ghost use Rattle.rules.specs.Limits.{most_tasks, frame_room};
-ghost use Rattle.rules.specs.Picture.{frames, status};
+ghost use Rattle.rules.specs.Picture.{frames};
 ghost use Rattle.rules.specs.Changes.{mark, turn, join, leave_queue, let_go, close, engage};
 ghost use Rattle.tasks.specs.View.{view, blank};
-ghost use Rattle.tasks.specs.Stops.{ByteMask, stopped};
 
 use crate::ids::{Entry, TaskId};
 use crate::limits::TASKS;
 use crate::record::TaskRecord;
 use crate::tables::Tables;
-use rules::{Action, Frame, Master, Status};
+use rules::{Frame, Master, Status};
 
 /// The record of the task among all.
 pub(crate) fn record_of(tasks: &[TaskRecord; TASKS], t: TaskId) -> &TaskRecord
@@ -20,8 +20,7 @@ pub(crate) fn record_of(tasks: &[TaskRecord; TASKS], t: TaskId) -> &TaskRecord
     &tasks[usize::from(t)]
 }
 
-// The changes that events are made of. Those of one task call the method of its record: a change that took a closure would have
-// to say over again, in its clause, what the method's contract says.
+// One task changes by its record's method; one change that took a closure would say each method's contract again.
 impl Tables {
     /// What is kept of the task.
     pub(crate) fn task(&self, t: TaskId) -> &TaskRecord
@@ -35,14 +34,6 @@ impl Tables {
         ensures { view self.new ≡ mark (view self.old) t.number status }
     {
         self.tasks[usize::from(t)].set_status(status);
-    }
-
-    /// A Running task stops and waits, as the action has it.
-    pub(crate) fn stop(&mut self, t: TaskId, action: Action)
-        requires { ByteMask action }
-        ensures { view self.new ≡ mark (view self.old) t.number (stopped (status (view self.old) t.number) action) }
-    {
-        self.tasks[usize::from(t)].stop(action);
     }
 
     /// The task goes on in a new innermost frame.

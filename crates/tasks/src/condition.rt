@@ -1,20 +1,19 @@
+// What a task is doing, and what it depends on.
 ghost use Rattle.std.specs.Prelude.{◌≡◌, ℕ, ◌≤◌, ◌≢◌, ◌⊎◌, [], cond, MatchBool, MatchOption};
-ghost use Rattle.rules.specs.declared.vocabulary.Status.TheVariants.{Accepting, Completed, Leaving, Running, Terminated};
+ghost use Rattle.rules.specs.declared.vocabulary.Status.TheVariants.{Accepting, Completed, Running, Terminated};
 ghost use Rattle.rules.specs.Limits.{most_entries};
 ghost use Rattle.rules.specs.Picture.{under, queued_at, queued_at_server};
 ghost use Rattle.rules.specs.Changes.{with_status, with_master, freed};
 ghost use Rattle.rules.specs.Rules.{In, IsOpenSet};
 ghost use Rattle.tasks.specs.Says.{Says};
 ghost use Rattle.tasks.specs.View.{task_of};
-ghost use Rattle.tasks.specs.Stops.{ByteMask, stopped};
 
 use crate::ids::{Entry, TaskId};
 use crate::open_set::OpenSet;
 use crate::record::TaskRecord;
 use arrayvec::ArrayVec;
-use rules::{Action, Master, Status};
+use rules::{Master, Status};
 
-// What a task is doing, and what it depends on.
 impl TaskRecord {
     /// A task with no open frame.
     pub(crate) fn new(status: Status, entries: u8, master: Option<Master>) -> TaskRecord
@@ -33,27 +32,6 @@ impl TaskRecord {
         ensures { task_of self.new ≡ with_status (task_of self.old) status }
     {
         self.status = status;
-    }
-
-    /// A Running task stops and waits, as the action has it: to leave its block, for a caller, or for its dependents.
-    pub(crate) fn stop(&mut self, action: Action)
-        requires { ByteMask action }
-        ensures { task_of self.new ≡ with_status (task_of self.old) (stopped self.old.status action) }
-    {
-        match (self.status, action) {
-            (Status::Running, Action::LeaveBlock) => self.status = Status::Leaving,
-            (Status::Running, Action::Accept { mask }) => {
-                self.status = Status::Accepting { mask: mask as u8 };
-            }
-            (Status::Running, Action::Finish) => self.status = Status::Completed,
-            _ => {}
-        }
-    }
-
-    pub(crate) fn is_terminated(&self) -> bool
-        ensures { Says result (self.now.status ≡ Terminated) }
-    {
-        self.status == Status::Terminated
     }
 
     /// Whether it has finished, and so takes no call any more.

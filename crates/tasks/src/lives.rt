@@ -1,3 +1,4 @@
+// How tasks begin and finish: first the checks, in the order of their numbers, then the change.
 ghost use Rattle.std.specs.Prelude.{◌≡◌, ◌<◌, ◌≤◌};
 ghost use Rattle.rules.specs.declared.vocabulary.Action.TheVariants.{Begin, Finish};
 ghost use Rattle.rules.specs.declared.vocabulary.Status.TheVariants.{Running};
@@ -13,9 +14,8 @@ use crate::limits::{ENTRIES, TASKS};
 use crate::record::TaskRecord;
 use crate::tables::Tables;
 use refusals::Refusal;
-use rules::{Action, Outcome, Status};
+use rules::{Outcome, Status};
 
-// How tasks begin and finish: first the checks, in the order of their numbers, then the change.
 impl Tables {
     /// The actor begins a task, with the next number.
     pub(crate) fn begin(
@@ -64,7 +64,7 @@ impl Tables {
         let over = self.all_over(actor);
         self.dismiss(actor);
         if !over {
-            self.stop(actor, Action::Finish);
+            self.mark(actor, Status::Completed);
             return Ok(Outcome::Waits);
         }
         self.mark(actor, Status::Terminated);

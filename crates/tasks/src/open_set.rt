@@ -1,3 +1,4 @@
+// The set of entries at which an accept takes a caller.
 ghost use Rattle.std.specs.Prelude.{◌≡◌, ℕ, ◌^◌, ◌<◌, ◌≤◌, MatchOption};
 ghost use Rattle.rules.specs.Limits.{most_entries};
 ghost use Rattle.rules.specs.Rules.{In, IsOpenSet};

@@ -1,3 +1,4 @@
+// What a picture is.
 ghost use Rattle.tasks.specs.View.{view};
 ghost use Rattle.tasks.specs.Promises.{IsReached};
 

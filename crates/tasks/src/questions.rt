@@ -1,3 +1,4 @@
+// What events ask of the tables.
 ghost use Rattle.std.specs.Prelude.{◌≡◌, ◌<◌, ◌≤◌, length, take, MatchOption, MatchResult};
 ghost use Rattle.rules.specs.Picture.{Over, AllOver};
 ghost use Rattle.rules.specs.Rules.{Acts};
@@ -11,8 +12,6 @@ use crate::tables::Tables;
 use refusals::Refusal;
 use rules::{Master, Status};
 
-// What events ask of the tables. Two questions differ in their test alone, and stay two lines: a method that took the test would
-// need a clause longer than both.
 impl Tables {
     /// The task of that number, if it can act.
     pub(crate) fn acting(&self, actor: u16) -> Result<TaskId, Refusal>
@@ -46,20 +45,20 @@ impl Tables {
         &self.tasks[..usize::from(self.begun)]
     }
 
+    // These two differ in their test alone; a method that took the test would need a clause as long as both.
+
     /// Whether every dependent of that block or body is Terminated.
     pub(crate) fn block_is_over(&self, block: Master) -> bool
         ensures { Says result (Over (view self.now) block.creator block.level) }
     {
-        self.begun()
-            .iter()
-            .all(|task| !task.depends_on(block) || task.is_terminated())
+        self.begun().iter().all(|task| !task.depends_on(block) || task.status == Status::Terminated)
     }
 
-    /// Whether every dependent of the creator is Terminated.
-    pub(crate) fn all_over(&self, creator: TaskId) -> bool
-        ensures { Says result (AllOver (view self.now) creator.number) }
+    /// Whether every dependent of the task, at any level, is Terminated.
+    pub(crate) fn all_over(&self, t: TaskId) -> bool
+        ensures { Says result (AllOver (view self.now) t.number) }
     {
-        self.begun().iter().all(|task| !task.depends_at_all(creator) || task.is_terminated())
+        self.begun().iter().all(|task| !task.depends_at_all(t) || task.status == Status::Terminated)
     }
 
     /// Whether the task waits to leave its block at that level, and need not wait any more.

@@ -1,3 +1,4 @@
+// The record of a task.
 ghost use Rattle.std.specs.Prelude.{◌≤◌};
 ghost use Rattle.rules.specs.Limits.{most_entries};
 

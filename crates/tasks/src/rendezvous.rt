@@ -1,3 +1,4 @@
+// What a Running task may do with calls: first the checks, in the order of their numbers, then the change.
 ghost use Rattle.std.specs.Prelude.{◌<◌};
 ghost use Rattle.rules.specs.declared.vocabulary.Action.TheVariants.{Call, Accept, EndRendezvous};
 ghost use Rattle.rules.specs.Rules.{Acts};
@@ -9,9 +10,8 @@ use crate::limits::FRAME_ROOM;
 use crate::open_set::OpenSet;
 use crate::tables::Tables;
 use refusals::Refusal;
-use rules::{Action, Outcome, Status};
+use rules::{Outcome, Status};
 
-// What a Running task may do with calls: first the checks, in the order of their numbers, then the change.
 impl Tables {
     /// The actor calls an entry of the server: a rendezvous begins, or the actor waits in the entry's queue.
     pub(crate) fn call(
@@ -55,7 +55,12 @@ impl Tables {
             return Err(Refusal::NoRoomForRendezvous);
         }
         let Some(caller) = self.first_caller(actor, open_set) else {
-            self.stop(actor, Action::Accept { mask });
+            self.mark(
+                actor,
+                Status::Accepting {
+                    mask: open_set.mask,
+                },
+            );
             return Ok(Outcome::Waits);
         };
         self.leave_queue(caller.task);

@@ -1,3 +1,4 @@
+// The search for the caller that an accept takes.
 ghost use Rattle.std.specs.Prelude.{◌≡◌, ℕ, List, [], ◌∷◌, MatchOption};
 ghost use Rattle.rules.specs.Picture.{queue};
 ghost use Rattle.rules.specs.Rules.{In, Takes};

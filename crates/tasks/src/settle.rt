@@ -1,3 +1,4 @@
+// The cascade up the masters, when a task has ended.
 ghost use Rattle.rules.specs.Rules.{Settles};
 ghost use Rattle.tasks.specs.View.{view};
 ghost use Rattle.tasks.specs.Promises.{Settling};

@@ -1,3 +1,4 @@
+// The frames of a task, as a stack.
 ghost use Rattle.std.specs.Prelude.{◌≡◌, ℕ, ◌<◌, Bool, List, [], ◌∷◌, length, MatchBool, MatchOption};
 ghost use Rattle.rules.specs.declared.vocabulary.Frame.{Frame as AFrame};
 ghost use Rattle.rules.specs.declared.vocabulary.Frame.TheVariants.{Block, Rendezvous};
@@ -13,7 +14,6 @@ ghost use Rattle.tasks.specs.View.{task_of, frames_of};
 use crate::record::TaskRecord;
 use rules::{Frame, Status};
 
-// The frames of a task, as a stack.
 impl TaskRecord {
     /// How many frames are open.
     pub(crate) fn open_frames(&self) -> u8

@@ -1,3 +1,4 @@
+// What the tables of a picture are.
 ghost use Rattle.std.specs.Prelude.{◌≤◌};
 ghost use Rattle.rules.specs.Limits.{most_tasks};
 
@@ -6,7 +7,7 @@ use crate::limits::TASKS;
 use crate::record::TaskRecord;
 use arrayvec::ArrayVec;
 
-/// The tables of a picture: fixed in size, and never copied whole.
+/// The tables of a picture, fixed in size.
 #[derive(Drop)]
 pub struct Tables {
     pub(crate) tasks: [TaskRecord; TASKS],

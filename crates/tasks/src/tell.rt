@@ -1,3 +1,4 @@
+// New tables, and telling them an event.
 ghost use Rattle.std.specs.Prelude.{◌≡◌};
 ghost use Rattle.rules.specs.Picture.{fresh};
 ghost use Rattle.tasks.specs.View.{view};

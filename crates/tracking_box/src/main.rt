@@ -1,7 +1,7 @@
 // Two stories of tracking boxes, told through tickets: each event, its outcome, and the tasks that it gets named.
 #![tactic(auto)]
 
-use monitor::{Monitor, Refused, RunningTicket, Tickets};
+use monitor::{Monitor, Refused, RunningTicket, Tickets, WaitingTicket};
 use rules::{Action, Outcome};
 use std::io;
 use task_book::NameSet;
@@ -68,6 +68,19 @@ impl<'a> Story<'a> {
         }
     }
 
+    // Tells an event after which the task waits.
+    fn waits(
+        &mut self,
+        ticket: RunningTicket,
+        what: &str,
+        action: Action,
+    ) -> io::Result<WaitingTicket> {
+        match self.tell(ticket, what, action)? {
+            Tickets::Waits(ticket) => Ok(ticket),
+            _ => Err(astray()),
+        }
+    }
+
     // Begins a task, and hands on the tickets of its creator and its own.
     fn begins(
         &mut self,
@@ -115,17 +128,13 @@ fn van(rt: &HostRuntime) -> io::Result<()> {
         "the program begins sampler, task 2",
     )?;
     let accept = Action::Accept { mask: 1 };
-    let Tickets::Waits(store) = story.tell(store, "store accepts a call", accept)? else {
-        return Err(astray());
-    };
+    let store = story.waits(store, "store accepts a call", accept)?;
     let call = Action::Call {
         server: 1,
         entry: 0,
     };
     story.tell(sampler, "sampler calls store", call)?;
-    let Ok(store) = story.monitor.exchange(store) else {
-        return Err(astray());
-    };
+    let store = story.monitor.exchange(store).map_err(|_| astray())?;
     let store = story.runs(store, "store opens a block", Action::OpenBlock)?;
     let (_store, helper) = story.begins(store, "store begins a helper, task 3", 3, 1)?;
     let call = Action::Call {

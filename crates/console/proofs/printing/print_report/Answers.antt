@@ -11,4 +11,4 @@ pub returns-in-Ok : goal.returns-in-Ok
 returns-in-Ok g c = on_ok c.write_all.result (λ wrote. (_, report c.in-Ok.ensures.reported (search rules), wrote)) c.write_all.ensures.bytes
 
 pub returns-in-Err : goal.returns-in-Err
-returns-in-Err g c = on_ok c.write.result (λ wrote. (_, refused c.in-Err.ensures.reported refl, rw c.number.ensures at wrote)) c.write.ensures.bytes
+returns-in-Err g c = on_ok c.writeln.result (λ wrote. (_, refused c.in-Err.ensures.reported refl, rw c.number.ensures at wrote)) c.writeln.ensures.bytes

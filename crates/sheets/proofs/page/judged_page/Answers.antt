@@ -27,7 +27,7 @@ returns c =
       starts = subst (λ b. NoRows (follow b)) (sym c.new-watch.ensures.book) c.new.ensures;
       fed = told.1;
       judged = left_out;
-      printed = c.in_ok-write.ensures.bytes
+      printed = c.in_ok-writeln.ensures.bytes
           ∙ ap (λ l. string_bytes c.put_parties.new.text ++ closing_line taken l) many
           ∙ ap (λ l. l ++ closing_line taken (size parties out)) (c.in_ok-put_parties.ensures ∙ ap (λ l. l ++ parts) front)
           ∙ append_assoc told.0 parts (closing_line taken (size parties out));

@@ -51,7 +51,7 @@ loop-i-preserved c =
     let same : follow c.take_line.new.self ≡ f = ap follow c.in-Err.ensures.1 in (
       (
         so_far ++ line,
-        c.in_ok-write-in-Err.ensures.bytes ∙ ap (λ l. string_bytes c.loop-i.text ++ l) refused ∙ ap (λ l. l ++ line) inv.0.1 ∙ append_assoc text so_far line,
+        c.in_ok-writeln-in-Err.ensures.bytes ∙ ap (λ l. string_bytes c.loop-i.text ++ l) refused ∙ ap (λ l. l ++ line) inv.0.1 ∙ append_assoc text so_far line,
         λ g t more h.
             one_refused n t f f g (lines_of c.args.input.now) first taken so_far c.in-Some.line.now more _ rest step.0 inv.0.2 e c.in-Err.ensures.0
             (subst (λ m. Fed (n + 1) m rest g t more) same (subst (λ k. Fed (k + 1) (follow c.take_line.new.self) rest g t more) step.2 h)),

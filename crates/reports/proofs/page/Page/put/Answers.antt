@@ -1,15 +1,25 @@
-use Rattle.std.proofs.Common.{get_or, sym, refl}
-use Rattle.std.proofs.lemmas.List.{set_past}
-use Rattle.reports.proofs.Laying.{more}
+use Rattle.std.proofs.Common.{sym, refl, ap, ◌∙◌, ◌-◌, arith}
+use borrow.Rule.Slice.PartMut.{put_mid}
+use Rattle.reports.proofs.Laying.{over_none, over_to}
 use Rattle.reports.proofs.page.Page.put.Goals as goal
-use Rattle.reports.proofs.page.Page.put.Goals.{then-self, else-self}
+use Rattle.reports.proofs.page.Page.put.Goals.{then-self-end, else-self-end}
 
-pub loop-byte-preserved : goal.loop-byte-preserved
-loop-byte-preserved c =
-    let page = c.loop-byte.self in
+pub returns : goal.returns
+returns c =
+    let page = c.args.self.now in
+    let xs = page.buf.now in
     let bs = c.args.bytes.now in
-    let i = c.loop-byte.byte-index in
-    elim c.if-self.branch [
-      | then-self w ↦ rw w.self-is (more _ bs i c.loop-byte-test.true c.loop-byte.invariant refl refl refl)
-      | else-self w ↦ rw w.self-is (more _ bs i c.loop-byte-test.true c.loop-byte.invariant (sym (set_past page.buf.now page.at (get_or bs i 0) w.if-self.false)) refl refl)
+    let end = c.min-end.result in
+    elim c.if-self-end.branch [
+      | then-self-end w ↦ rw w.self-is (record {
+        puts = record {
+          after = ap (put_mid page.at (end - page.at) xs) w.copy_from_slice.ensures.after ∙ sym (over_to xs page.at end bs w.if-self-end.true c.min-end.ensures);
+          place = refl;
+        };
+        same_buffer = refl;
+      })
+      | else-self-end w ↦ rw w.self-is (record {
+        puts = record { after = sym (over_none xs page.at bs (omega (arith, c.min-end.ensures, w.if-self-end.false))); place = refl };
+        same_buffer = refl;
+      })
     ]

@@ -1,10 +1,9 @@
 use Rattle.std.proofs.Common.{◌≡◌, ℕ, ◌<◌, [], length, sym, ap, ◌∙◌, subst, arith}
-use Rattle.rules.specs.declared.vocabulary.Action.TheVariants.{Accept}
+use Rattle.rules.specs.declared.vocabulary.Status.TheVariants.{Accepting}
 use Rattle.rules.specs.Limits.{frame_room}
 use Rattle.rules.specs.Picture.{Picture, frames, queue}
 use Rattle.rules.specs.Changes.{engage, mark}
 use Rattle.rules.specs.Rules.{In, Takes, takes, waits_to_accept}
-use Rattle.tasks.specs.Stops.{stopped}
 use Rattle.tasks.specs.View.{view, frames_of}
 use Rattle.tasks.specs.declared.ids.TaskId.{TaskId}
 use Rattle.tasks.proofs.Views.{arrived, proper}
@@ -18,7 +17,7 @@ returns-in_default c =
     let room : length (frames p a) < frame_room = omega (arith, ap (λ t. length (frames_of t)) c.task-task.ensures) in
     let own = proper c.in_ok-open_set.open_set o.0 (o.1 ∙ ap (λ t. t.entries) c.task-task.ensures) in
     let mine = subst (λ m. (e : ℕ) → In e m → queue p a e ≡ []) o.0 c.in_default.ensures in
-    arrived (c.stop.ensures ∙ ap (λ s. mark p a (stopped s (Accept c.args.mask))) c.requires.acts.1) (waits_to_accept c.requires.acts own room mine)
+    arrived (c.mark.ensures ∙ ap (λ m. mark p a (Accepting m)) o.0) (waits_to_accept c.requires.acts own room mine)
 
 pub engage-requires : goal.engage-requires
 engage-requires c =
