@@ -15,15 +15,24 @@ pub(crate) struct Page<'a> {
 }
 
 impl Page<'_> {
+    fn put_byte(&mut self, b: u8)
+        requires { self.old.at < 2 ^ 63 }
+        ensures { Takes self.old (b ∷ []) self.new }
+    {
+        if self.at < self.buf.len() {
+            self.buf[self.at] = b;
+        }
+        self.at += 1;
+    }
+
+    // Byte by byte: to copy slices, the archive for C would want `memcpy` from outside.
     fn put(&mut self, bytes: &[u8])
         requires { self.old.at + length bytes.now < 2 ^ 63 }
         ensures { Takes self.old bytes.now self.new }
     {
-        let end = self.buf.len().min(self.at + bytes.len());
-        if self.at < end {
-            self.buf[self.at..end].copy_from_slice(&bytes[..end - self.at]);
+        for b in bytes {
+            self.put_byte(*b);
         }
-        self.at += bytes.len();
     }
 
     // `n` in decimal; `write!` leaves open when it fails.
