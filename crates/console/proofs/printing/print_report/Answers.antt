@@ -1,5 +1,6 @@
-use Rattle.std.proofs.Common.{OnOk, Ok, Err, Result, rules, refl}
-use Rattle.console.specs.Printed.{report, refused}
+use Rattle.std.proofs.Common.{ℕ, OnOk, Ok, Err, Result, rules}
+use Rattle.std.proofs.lemmas.List.{length-replicate}
+use Rattle.console.specs.Printed.{report_room, report, refused}
 use Rattle.console.proofs.printing.print_report.Goals as goal
 
 -- what follows from a fact follows from it where there is a value
@@ -8,7 +9,7 @@ on_ok (Ok x) f p = f p
 on_ok (Err e) f p = tt
 
 pub returns-in-Ok : goal.returns-in-Ok
-returns-in-Ok g c = on_ok c.write_all.result (λ wrote. (_, report c.in-Ok.ensures.reported (search rules), wrote)) c.write_all.ensures.bytes
+returns-in-Ok g c = on_ok c.write_all.result (λ wrote. (_, report (length-replicate {A = ℕ} report_room 0) c.in-Ok.ensures.reported (search rules), wrote)) c.write_all.ensures.bytes
 
 pub returns-in-Err : goal.returns-in-Err
-returns-in-Err g c = on_ok c.writeln.result (λ wrote. (_, refused c.in-Err.ensures.reported refl, rw c.number.ensures at wrote)) c.writeln.ensures.bytes
+returns-in-Err g c = on_ok c.write_all-in-Err.result (λ wrote. (_, refused (length-replicate {A = ℕ} report_room 0) c.in-Err.ensures.reported (search rules), wrote)) c.write_all-in-Err.ensures.bytes
