@@ -11,6 +11,7 @@ use crate::ids::{Entry, TaskId};
 use crate::limits::TASKS;
 use crate::record::TaskRecord;
 use crate::tables::Tables;
+use arrayvec::ArrayVec;
 use rules::{Frame, Master, Status};
 
 /// The record of the task among all.
@@ -64,7 +65,14 @@ impl Tables {
     pub(crate) fn leave_queue(&mut self, caller: TaskId)
         ensures { view self.new ≡ leave_queue (view self.old) caller.number }
     {
-        self.arrivals.retain(|other| *other != caller);
+        // Not by `retain`, which swaps each that stays past the one that leaves, and takes a third longer.
+        let mut others = ArrayVec::new();
+        for other in self.arrivals.as_slice() {
+            if *other != caller {
+                others.push(*other);
+            }
+        }
+        self.arrivals = others;
     }
 
     /// A rendezvous begins: the caller is Engaged, and the server goes on in it.
