@@ -1,9 +1,9 @@
 -- The binary digits of a word of 64, as tests.
-use Rattle.std.proofs.Common.{◌≡◌, ℕ, zero, suc, ◌+◌, ◌-◌, ◌*◌, ◌/◌, ◌%◌, ◌^◌, ◌<◌, ◌≤◌, Bool, true, false, not, ◌&&◌, ◌||◌, eqb, ltb, MatchBool, sym, refl, ap, ◌∙◌, inl, inr, mod-lt, arith}
-use lib.Bits.{bit_and, bit_or}
+use Rattle.std.proofs.Common.{◌≡◌, ℕ, zero, suc, ◌+◌, ◌-◌, ◌*◌, ◌/◌, ◌%◌, ◌^◌, ◌<◌, ◌≤◌, Bool, true, false, not, ◌&&◌, ◌||◌, eqb, ltb, MatchBool, sym, refl, ap, ◌∙◌, inl, inr, mod-lt, mod-eq_of_lt, pow_pos, arith}
+use lib.Bits.{bit_and, bit_or, bit_xor, xor_add_and, and_mask}
 use Rattle.std.specs.Int.{w64, trailing_zeros}
 use Rattle.std.proofs.lemmas.Nat.{and_le_l, one_shl, shr-shr}
-use Rattle.std.proofs.lemmas.Nat.Bits.{bit_at-lt, bit_at_and, bit_at_or, bit_at-zero, bit_at_ones, bit_at_ones_above, bit_at_above, bit_at_not, bit_at-pow_same, bit_at-pow_other, bit_at-trailing_zeros, same_from_bits}
+use Rattle.std.proofs.lemmas.Nat.Bits.{bit_at-lt, bit_at_and, bit_at_or, bit_at-zero, bit_at_ones, bit_at_ones_above, bit_at_above, bit_at_xor, bit_at-pow_same, bit_at-pow_other, bit_at-trailing_zeros, same_from_bits}
 use Rattle.std.proofs.lemmas.Bool.{both_ways, cases_eq, cases_lt, eq-eqb, ne_eqb}
 use Rattle.std.proofs.lemmas.Bool.Decides.{nat_tests}
 use Rattle.books.specs.Points.{bit}
@@ -30,25 +30,33 @@ ones_bit n q = elim (cases_lt q n) [
   | inr g ↦ (let o = bit_at_ones_above n q g in grind (arith, nat_tests))
 ]
 
--- a word has no digit from the 64th on
-pub high_bit : (n q : ℕ) → n < 2 ^ 64 → 64 ≤ q → bit n q ≡ false
+-- a number of k digits has none from the k-th on
+pub high_bit : (k n q : ℕ) → n < 2 ^ k → k ≤ q → bit n q ≡ false
 unfolding bit
-high_bit n q h le = let z = bit_at_above n 64 q h le in grind (arith, nat_tests)
+high_bit k n q h le = let z = bit_at_above n k q h le in grind (arith, nat_tests)
 
 -- the digits of n from the f-th on
 pub bit_above : (n f k : ℕ) → bit (n / 2 ^ f) k ≡ bit n (f + k)
 unfolding bit
 bit_above n f k = ap (λ m. eqb (m % 2) 1) (shr-shr n f k)
 
-not_bit : (n q : ℕ) → n < 2 ^ 64 → q < 64 → bit (2 ^ 64 - 1 - n) q ≡ not (bit n q)
+-- turning every digit of n, which has k of them, takes it from the number with k ones
+flipped : (k n : ℕ) → n < 2 ^ k → 2 ^ k - 1 - n ≡ bit_xor n (2 ^ k - 1)
+flipped k n h = let low : bit_and n (2 ^ k - 1) ≡ n = and_mask n k ∙ mod-eq_of_lt h in omega (arith, xor_add_and n (2 ^ k - 1), low, pow_pos k)
+
+not_bit : (k n q : ℕ) → n < 2 ^ k → q < k → bit (2 ^ k - 1 - n) q ≡ not (bit n q)
 unfolding bit
-not_bit n q h l = let x = bit_at-lt n q in let e = bit_at_not w64 n q h l in grind (arith, nat_tests)
+not_bit k n q h l =
+    let x = bit_at-lt n q in
+    let one = bit_at_ones k q l in
+    let e = ap (λ m. m / 2 ^ q % 2) (flipped k n h) ∙ bit_at_xor n (2 ^ k - 1) q in
+    grind (arith, nat_tests)
 
 -- the digits of a that b has not
-pub and_not_bit : (a b q : ℕ) → a < 2 ^ 64 → b < 2 ^ 64 → bit (bit_and a (2 ^ 64 - 1 - b)) q ≡ (bit a q && not (bit b q))
-and_not_bit a b q ha hb = and_bit a (2 ^ 64 - 1 - b) q ∙ elim (cases_lt q 64) [
-  | inl l ↦ ap (λ x. bit a q && x) (not_bit b q hb l)
-  | inr g ↦ (let z = high_bit a q ha g in rw z refl)
+pub and_not_bit : (k a b q : ℕ) → a < 2 ^ k → b < 2 ^ k → bit (bit_and a (2 ^ k - 1 - b)) q ≡ (bit a q && not (bit b q))
+and_not_bit k a b q ha hb = and_bit a (2 ^ k - 1 - b) q ∙ elim (cases_lt q k) [
+  | inl l ↦ ap (λ x. bit a q && x) (not_bit k b q hb l)
+  | inr g ↦ (let z = high_bit k a q ha g in rw z refl)
 ]
 
 -- the word with the k-th digit alone
@@ -65,7 +73,7 @@ set_bit n k q l = let o = or_bit n (1 * 2 ^ k % 2 ^ 64) q in let e = one_bit k q
 
 -- the digits of n without the k-th
 pub clear_bit : (n k q : ℕ) → n < 2 ^ 64 → k < 64 → bit (bit_and n (2 ^ 64 - 1 - 1 * 2 ^ k % 2 ^ 64)) q ≡ (bit n q && not (eqb q k))
-clear_bit n k q h l = and_not_bit n (1 * 2 ^ k % 2 ^ 64) q h (mod-lt (1 * 2 ^ k) (omega arith)) ∙ ap (λ b. bit n q && not b) (one_bit k q l)
+clear_bit n k q h l = and_not_bit 64 n (1 * 2 ^ k % 2 ^ 64) q h (mod-lt (1 * 2 ^ k) (omega arith)) ∙ ap (λ b. bit n q && not b) (one_bit k q l)
 
 -- the lowest digit of a word that has one
 pub lowest_bit : (n : ℕ) → 0 < n → n < 2 ^ 64
@@ -77,7 +85,7 @@ lowest_bit n p h =
 
 -- a word has its digits below the 64th
 pub place : (n q : ℕ) → n < 2 ^ 64 → bit n q ≡ true → q < 64
-place n q h e = elim (cases_lt q 64) [ inl l ↦ l | inr g ↦ absurd (both_ways (bit n q) (high_bit n q h g) e) ]
+place n q h e = elim (cases_lt q 64) [ inl l ↦ l | inr g ↦ absurd (both_ways (bit n q) (high_bit 64 n q h g) e) ]
 
 -- words with the same digits are the same
 same_bits : (a b : ℕ) → ((q : ℕ) → bit a q ≡ bit b q) → a ≡ b

@@ -10,4 +10,4 @@ unfolding bit
 returns-then-k-lt64 c = ap (λ x. eqb x 1) (shr_and_one c.args.self.0 c.args.k)
 
 pub returns-else-k-lt64 : goal.returns-else-k-lt64
-returns-else-k-lt64 c = le-ltb c.args.k 64 (omega arith) ∙ sym (high_bit c.args.self.0 c.args.k (search rules) (omega arith))
+returns-else-k-lt64 c = le-ltb c.args.k 64 (omega arith) ∙ sym (high_bit 64 c.args.self.0 c.args.k (search rules) (omega arith))

@@ -7,7 +7,7 @@ use Rattle.books.proofs.Binary.{bit_above, high_bit, lowest_bit, place, zero_bit
 use Rattle.books.proofs.members.Members.lowest.Goals as goal
 
 pub returns-then-from-ge64 : goal.returns-then-from-ge64
-returns-then-from-ge64 c t l = high_bit c.args.self.0 t (search rules) (omega arith)
+returns-then-from-ge64 c t l = high_bit 64 c.args.self.0 t (search rules) (omega arith)
 
 pub returns-then-rest-eq0 : goal.returns-then-rest-eq0
 returns-then-rest-eq0 c t l =

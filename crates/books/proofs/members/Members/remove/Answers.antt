@@ -12,6 +12,6 @@ returns-else-k-lt64-clause-after c i =
     let n = c.args.self.now.0 in
     let fits : n < 2 ^ 64 = search rules in
     elim (cases_eq i c.args.k) [
-      | inl e ↦ (let z = high_bit n i fits (omega arith) in grind (arith, nat_tests))
+      | inl e ↦ (let z = high_bit 64 n i fits (omega arith) in grind (arith, nat_tests))
       | inr o ↦ grind (arith, nat_tests)
     ]
