@@ -1,9 +1,8 @@
 -- One line more of a tape.
-use Rattle.std.proofs.Common.{◌≡◌, ℕ, ◌+◌, ◌<◌, List, [], ◌∷◌, ◌++◌, length, get_or, take, drop, true, Ok, Err, Result, MatchResult, sym, refl, ap, ◌∙◌, subst, add-zero, arith}
+use Rattle.std.proofs.Common.{◌≡◌, ℕ, ◌+◌, ◌<◌, List, [], ◌∷◌, ◌++◌, length, get_or, take, drop, Ok, Result, sym, refl, ap, ◌∙◌, subst, add-zero, arith}
 use Rattle.std.proofs.lemmas.List.{take_more, get_or-drop, drop-drop, length-drop}
-use Rattle.std.specs.Result.{is_ok}
 use Rattle.refusals.specs.declared.Refusal.{Refusal}
-use Rattle.tape.specs.Tapes.{Told, Accepts}
+use Rattle.tape.specs.Tapes.{Accepts}
 
 module _ {X : Type 0} (all : List X) (n : ℕ) (x : X) (rest : List X) (e : drop n all ≡ x ∷ rest) where
   pub within : n < length all
@@ -22,13 +21,3 @@ module _ {S : Type 0} (steps : S → List ℕ → Result S Refusal → Type 0) w
   pub accepts_more : (s : S) (ls : List (List ℕ)) (t : S) (l : List ℕ) (u : S) → Accepts steps s ls t → steps t l (Ok u) → Accepts steps s (ls ++ l ∷ []) u
   accepts_more s [] t l u h e = (u, subst (λ v. steps v l (Ok u)) h e, refl)
   accepts_more s (m ∷ ls) t l u h e = (h.0, h.1, accepts_more h.0 ls t l u h.2 e)
-
-  -- what was told, by what `map_err` made of the answer
-  pub line_told : (r : Result (Unit {0}) Refusal) (s : S) (line : List ℕ) (t : S) → true ≡ is_ok r → Told steps s line r t → steps s line (Ok t)
-  line_told (Ok x) s line t e told = told
-  line_told (Err cause) s line t e told = cc
-
-  pub line_refused : {D : Type 0} (r : Result (Unit {0}) Refusal) (s : S) (line : List ℕ) (t : S) (d : D) (Made : Refusal → Type 0) → Told steps s line r t
-      → MatchResult r (λ x. Err d ≡ Ok x) Made → (cause : Refusal) × steps s line (Err cause) × (t ≡ s) × Made cause
-  line_refused (Ok x) s line t d Made told made = cc
-  line_refused (Err cause) s line t d Made told made = (cause, told.0, told.1, made)

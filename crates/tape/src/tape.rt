@@ -56,9 +56,9 @@ pub fn play<T: Teller>(teller: &mut T, tape: &[u8]) -> Result<usize, PlayRefusal
     // Not by `try_fold`: its closure would write `teller`, of which a proof then knows nothing.
     let mut told = 0;
     for line in lines(tape) {
-        teller
-            .tell_line(line)
-            .map_err(|_| PlayRefusal::LineRefused { told })?;
+        if let Err(_) = teller.tell_line(line) {
+            return Err(PlayRefusal::LineRefused { told });
+        }
         told += 1;
     }
     Ok(told)
