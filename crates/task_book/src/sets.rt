@@ -11,6 +11,9 @@ use crate::levels::Dependents;
 use books::Members;
 use rules::Status;
 
+// The most tasks that a picture can have.
+const MOST_TASKS: u8 = 64;
+
 impl TaskBook {
     /// The tasks that have begun and pass the test.
     fn tasks_that<F: Fn(u8) -> bool>(&self, passes: F) -> Members
@@ -19,7 +22,8 @@ impl TaskBook {
     {
         // No chain: a `for` over `filter` is refused here, and with `filter` and `fold` the proof did not close.
         let mut tasks = Members::empty();
-        for t in 0..self.picture.begun() {
+        // `begun` promises that there are no more; written out, it spares a check of each number.
+        for t in 0..self.picture.begun().min(MOST_TASKS) {
             if passes(t) {
                 tasks.insert(usize::from(t));
             }
